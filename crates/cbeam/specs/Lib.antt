@@ -1,0 +1,7 @@
+pub mod Bits
+pub mod Phi5
+pub mod Permutation
+pub mod States
+pub mod Rotations
+pub mod Words
+pub mod Vectors

@@ -4,4 +4,3 @@ pub mod Permutation
 pub mod States
 pub mod Rotations
 pub mod Words
-pub mod Vectors

@@ -14,4 +14,3 @@ pub mod form;
 pub mod place;
 pub mod plain;
 pub mod planar;
-pub mod vectors;

@@ -16,3 +16,7 @@ pub record State (xs : List ℕ) : Type 0 where
 -- A mixing function takes states to states.
 abbrev pub Mixes : (List ℕ → List ℕ) → Type 0
 Mixes mixing = (xs : List ℕ) → State xs → State (mixing xs)
+
+-- Two mixing functions agree when they give the same on every state.
+abbrev pub Agree : (List ℕ → List ℕ) → (List ℕ → List ℕ) → Type 0
+Agree mixing₁ mixing₂ = (xs : List ℕ) → State xs → mixing₁ xs ≡ mixing₂ xs

@@ -1,16 +1,16 @@
-// The 32 bytes of any engine, read and written whole by its rules for single bytes.
+// The 32 bytes of any engine, read and written by its rules for single bytes.
 use crate::Engine;
 ghost use mathlib.Core.Path.{_≡_};
 ghost use Prim.Native.Nat.{_<_};
 ghost use lib.ListN.{getD, set};
 
-fn byte_at<E: Engine>(engine: &E, place: usize) -> u8
-    requires { ⌜ place < 32 ⌝ }
+// The byte at a place; past the last place, 0.
+pub fn byte_at<E: Engine>(engine: &E, place: usize) -> u8
     ensures { λ r. ⌜ r ≡ getD (bytes (now (engine .entry))) place 0 ⌝ }
 {
     match engine.byte(place) {
         Some(value) => value,
-        None => unreachable(),
+        None => 0,
     }
 }
 

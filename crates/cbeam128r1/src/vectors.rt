@@ -1,8 +1,8 @@
 // The worked examples, proved as one list.
 ghost use mathlib.Core.Path.{_≡_};
 ghost use lib.ListN.{length};
 ghost use Rattle.cbeam.specs.Phi5.{Phi5-agrees};
-ghost use Rattle.cbeam.specs.Vectors.{vectors, Each};
+ghost use Rattle.cbeam128r1.specs.Vectors.{vectors, Each};
 
 // Carries the proof that every row of the list holds.
 fn count_of_rows() -> usize
@@ -10,7 +10,7 @@ fn count_of_rows() -> usize
     ensures rows { λ _. ⌜ Each vectors ⌝ }
     ensures table { λ _. ⌜ Phi5-agrees ⌝ }
 {
-    7
+    14
 }
 
 // How many worked examples are proved. Each of them holds, and the polynomial of φ5 has its truth table.

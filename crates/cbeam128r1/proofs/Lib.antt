@@ -1,0 +1,4 @@
+pub mod Agreement
+pub mod OneTelegram
+pub mod Exactness
+pub mod Examples

@@ -1,0 +1,4 @@
+pub mod Published
+pub mod OneShot
+pub mod Exact
+pub mod Vectors

@@ -1,0 +1,10 @@
+pub mod Runs
+pub mod Lengths
+pub mod Directions
+pub mod Outputs
+pub mod Xor
+pub mod Tags
+pub mod Inverse
+pub mod Sealings
+pub mod Bytewise
+pub mod SessionStates

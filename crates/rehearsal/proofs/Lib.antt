@@ -1,0 +1,9 @@
+pub mod Verdicts
+pub mod Turns
+pub mod Single
+pub mod Simulation
+pub mod Points
+pub mod Openings
+pub mod Conservation
+pub mod InStep
+pub mod Rehearsals

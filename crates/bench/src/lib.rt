@@ -1,4 +1,6 @@
 // A bench: a script of calls at an endpoint, and the listing of their answers.
+#![tactic(auto)]
+
 pub mod command;
 mod listing;
 mod pool;

@@ -15,8 +15,8 @@ pub struct Mixed {
 }
 
 fn mixed_by<E: Engine + Drop>(mut engine: E, values: &[u8; 32]) -> [u8; 32]
-    requires { 1 ≤ budget engine }
-    ensures { result ≡ mixing values.now }
+    requires { 1 ≤ E.budget engine }
+    ensures { result ≡ E.mixing values.now }
 {
     write_state(&mut engine, values);
     let _ = engine.mix();

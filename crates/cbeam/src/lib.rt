@@ -1,4 +1,5 @@
 // The permutation of CBEAMr1 in two forms, each as a mixing engine.
+#![tactic(auto)]
 
 // The published bit formula for φ5, at each bit of five words of one width.
 macro_rules! phi5 {

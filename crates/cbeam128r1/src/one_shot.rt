@@ -70,8 +70,8 @@ fn encrypt_over<'x, E: Engine + Drop>(
     message: &'x [u8],
     output: &mut [u8],
 ) -> Result<usize, Refusal>
-    requires permutes { mixing ≡ pi }
-    requires enough { 16388 ≤ budget engine }
+    requires permutes { E.mixing ≡ pi }
+    requires enough { 16388 ≤ E.budget engine }
     ensures published { reply (answered sealed result) output.new
         ≡ encrypt_reply key.now nonce.now aad.now message.now
         output.old }
@@ -93,8 +93,8 @@ fn decrypt_over<'x, E: Engine + Drop>(
     sealed: &'x [u8],
     output: &mut [u8],
 ) -> Result<usize, Refusal>
-    requires permutes { mixing ≡ pi }
-    requires enough { 16388 ≤ budget engine }
+    requires permutes { E.mixing ≡ pi }
+    requires enough { 16388 ≤ E.budget engine }
     ensures published { reply (answered opened result) output.new
         ≡ decrypt_reply key.now nonce.now aad.now sealed.now
         output.old }

@@ -1,4 +1,6 @@
 // What a mixing engine is: 32 bytes, a number of mixings left, and a mixing function that is fixed for its kind.
+#![tactic(auto)]
+
 pub mod shortfall;
 pub mod tally;
 pub mod whole_state;

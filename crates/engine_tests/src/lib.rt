@@ -1,4 +1,6 @@
 // Examples and edges of the two engines. They stand apart so that the engines are proved without them.
+#![tactic(auto)]
+
 #[cfg(test)]
 mod tests {
     use cbeam::both_forms::mixed_by_both;

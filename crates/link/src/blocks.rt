@@ -17,18 +17,18 @@ pub(crate) enum Direction {
 // Xors a byte into the state.
 fn xor_at<E: Engine>(e: &mut E, i: usize, b: u8)
     requires { i < 32 }
-    ensures bytes { bytes e.new ≡ xor_at (bytes e.old) i b }
-    ensures budget { budget e.new ≡ budget e.old }
+    ensures bytes { E.bytes e.new ≡ xor_at (E.bytes e.old) i b }
+    ensures budget { E.budget e.new ≡ E.budget e.old }
 {
     let _ = e.replace(i, byte_at(e, i) ^ b);
 }
 
 // The place of the next byte. Where a block is full, it is closed first.
 fn next_place<E: Engine>(e: &mut E, pad: u8, i: usize) -> usize
-    requires { i ≡ 8 → 1 ≤ budget e.old }
+    requires { i ≡ 8 → 1 ≤ E.budget e.old }
     ensures at { result ≡ place i }
-    ensures bytes { bytes e.new ≡ readied mixing pad (bytes e.old) i }
-    ensures budget { budget e.new ≡ budget e.old - (if nat_eq i 8 then 1 else 0) }
+    ensures bytes { E.bytes e.new ≡ readied E.mixing pad (E.bytes e.old) i }
+    ensures budget { E.budget e.new ≡ E.budget e.old - (if nat_eq i 8 then 1 else 0) }
 {
     if i == 8 {
         xor_at(e, 8, pad);
@@ -41,9 +41,9 @@ fn next_place<E: Engine>(e: &mut E, pad: u8, i: usize) -> usize
 // Closes the last block, which has come to the place i.
 fn finish<E: Engine>(e: &mut E, pad: u8, i: usize)
     requires i_bound { i ≤ 8 }
-    requires bound { 1 ≤ budget e.old }
-    ensures bytes { bytes e.new ≡ closed mixing pad (bytes e.old) i }
-    ensures budget { budget e.new ≡ budget e.old - 1 }
+    requires bound { 1 ≤ E.budget e.old }
+    ensures bytes { E.bytes e.new ≡ closed E.mixing pad (E.bytes e.old) i }
+    ensures budget { E.budget e.new ≡ E.budget e.old - 1 }
 {
     xor_at(e, i, 0x01);
     xor_at(e, 8, 0x02 ^ pad);
@@ -52,9 +52,9 @@ fn finish<E: Engine>(e: &mut E, pad: u8, i: usize)
 
 // Xors the bytes into the state.
 pub(crate) fn put<E: Engine>(e: &mut E, pad: u8, input: &[u8])
-    requires { mixings (length input.now) ≤ budget e.old }
-    ensures bytes { bytes e.new ≡ after mixing op.put pad (bytes e.old) 0 input.now }
-    ensures budget { budget e.new ≡ budget e.old - mixings (length input.now) }
+    requires { mixings (length input.now) ≤ E.budget e.old }
+    ensures bytes { E.bytes e.new ≡ after E.mixing op.put pad (E.bytes e.old) 0 input.now }
+    ensures budget { E.budget e.new ≡ E.budget e.old - mixings (length input.now) }
 {
     let mut i = 0;
     for b in input {
@@ -67,11 +67,11 @@ pub(crate) fn put<E: Engine>(e: &mut E, pad: u8, input: &[u8])
 
 // Tells n bytes of the state.
 pub(crate) fn get<E: Engine>(e: &mut E, pad: u8, out: &mut [u8], n: usize)
-    requires budget { mixings n ≤ budget e.old }
+    requires budget { mixings n ≤ E.budget e.old }
     requires room { n ≤ length out.old }
-    ensures bytes { bytes e.new ≡ after mixing op.get pad (bytes e.old) 0 (zeros n) }
-    ensures budget { budget e.new ≡ budget e.old - mixings n }
-    ensures out { out.new ≡ told mixing op.get pad (bytes e.old) 0 (zeros n) ++ drop n out.old }
+    ensures bytes { E.bytes e.new ≡ after E.mixing op.get pad (E.bytes e.old) 0 (zeros n) }
+    ensures budget { E.budget e.new ≡ E.budget e.old - mixings n }
+    ensures out { out.new ≡ told E.mixing op.get pad (E.bytes e.old) 0 (zeros n) ++ drop n out.old }
 {
     let mut i = 0;
     for k in 0..n {
@@ -85,9 +85,9 @@ pub(crate) fn get<E: Engine>(e: &mut E, pad: u8, out: &mut [u8], n: usize)
 // Enciphers or deciphers one byte. The state keeps the enciphered one.
 fn crypt_byte<E: Engine>(e: &mut E, direction: Direction, i: usize, b: u8) -> u8
     requires { i < 32 }
-    ensures told { tells (op_of direction) (slice_index (bytes e.old) i) b ≡ result ∷ [] }
-    ensures bytes { bytes e.new ≡ treated (op_of direction) (bytes e.old) i b }
-    ensures budget { budget e.new ≡ budget e.old }
+    ensures told { tells (op_of direction) (slice_index (E.bytes e.old) i) b ≡ result ∷ [] }
+    ensures bytes { E.bytes e.new ≡ treated (op_of direction) (E.bytes e.old) i b }
+    ensures budget { E.budget e.new ≡ E.budget e.old }
 {
     let made = byte_at(e, i) ^ b;
     let _ = match direction {
@@ -105,12 +105,12 @@ pub(crate) fn crypt<E: Engine>(
     input: &[u8],
     out: &mut [u8],
 )
-    requires budget { mixings (length input.now) ≤ budget e.old }
+    requires budget { mixings (length input.now) ≤ E.budget e.old }
     requires room { length input.now ≤ length out.old }
-    ensures bytes { bytes e.new ≡ after mixing (op_of direction) pad (bytes e.old) 0 input.now }
-    ensures budget { budget e.new ≡ budget e.old - mixings (length input.now) }
+    ensures bytes { E.bytes e.new ≡ after E.mixing (op_of direction) pad (E.bytes e.old) 0 input.now }
+    ensures budget { E.budget e.new ≡ E.budget e.old - mixings (length input.now) }
     ensures out { out.new
-        ≡ told mixing (op_of direction) pad (bytes e.old) 0 input.now
+        ≡ told E.mixing (op_of direction) pad (E.bytes e.old) 0 input.now
         ++ drop (length input.now) out.old }
 {
     let mut i = 0;

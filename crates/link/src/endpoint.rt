@@ -32,7 +32,7 @@ pub struct Endpoint<E> {
 impl<E: Engine> Endpoint<E> {
     // An idle endpoint; the engine is as it was.
     pub fn new(engine: E) -> Endpoint<E>
-        ensures { view bytes budget result ≡ fresh (bytes engine) (budget engine) }
+        ensures { view E.bytes E.budget result ≡ fresh (E.bytes engine) (E.budget engine) }
     {
         Endpoint {
             engine,
@@ -43,8 +43,8 @@ impl<E: Engine> Endpoint<E> {
     // Begins a session.
     pub fn start<'x>(&mut self, key: &'x [u8], nonce: &'x [u8]) -> Result<(), Refusal>
         ensures inputs { CallBytes (Start key.now nonce.now []) }
-        ensures did { Did mixing (view bytes budget self.old) (Start key.now nonce.now [])
-            (answered (λ _. started) result) [] (view bytes budget self.new) }
+        ensures did { Did E.mixing (view E.bytes E.budget self.old) (Start key.now nonce.now [])
+            (answered (λ _. started) result) [] (view E.bytes E.budget self.new) }
     {
         self.step(Event::Start { key, nonce }, &mut [])?;
         Ok(())
@@ -58,9 +58,9 @@ impl<E: Engine> Endpoint<E> {
         output: &mut [u8],
     ) -> Result<usize, Refusal>
         ensures inputs { CallBytes (Seal aad.now message.now output.old) }
-        ensures did { Did mixing (view bytes budget self.old)
+        ensures did { Did E.mixing (view E.bytes E.budget self.old)
             (Seal aad.now message.now output.old)
-            (answered sealed result) output.new (view bytes budget self.new) }
+            (answered sealed result) output.new (view E.bytes E.budget self.new) }
     {
         self.step(Event::Seal { aad, message }, output)
     }
@@ -73,25 +73,25 @@ impl<E: Engine> Endpoint<E> {
         output: &mut [u8],
     ) -> Result<usize, Refusal>
         ensures inputs { CallBytes (Open aad.now sealed.now output.old) }
-        ensures did { Did mixing (view bytes budget self.old)
+        ensures did { Did E.mixing (view E.bytes E.budget self.old)
             (Open aad.now sealed.now output.old)
-            (answered opened result) output.new (view bytes budget self.new) }
+            (answered opened result) output.new (view E.bytes E.budget self.new) }
     {
         self.step(Event::Open { aad, sealed }, output)
     }
 
     // The mixings left.
     pub fn left(&self) -> u32
-        ensures { Did mixing (view bytes budget self.now) (Left []) (mixings_left result) []
-            (view bytes budget self.now) }
+        ensures { Did E.mixing (view E.bytes E.budget self.now) (Left []) (mixings_left result) []
+            (view E.bytes E.budget self.now) }
     {
         self.engine.left()
     }
 
     // Ends the session, and clears the 32 bytes.
     pub fn close(&mut self) -> Result<(), Refusal>
-        ensures { Did mixing (view bytes budget self.old) (Close []) (answered (λ _. closed) result) []
-            (view bytes budget self.new) }
+        ensures { Did E.mixing (view E.bytes E.budget self.old) (Close []) (answered (λ _. closed) result) []
+            (view E.bytes E.budget self.new) }
     {
         let event: Event<'static> = Event::Close;
         self.step(event, &mut [])?;
@@ -100,8 +100,8 @@ impl<E: Engine> Endpoint<E> {
 
     // What a call does depends on the phase and the call together; tells the length written.
     fn step(&mut self, event: Event, out: &mut [u8]) -> Result<usize, Refusal>
-        ensures { Did mixing (view bytes budget self.old) (call_of event.entry out.old)
-            (answer_to event.entry result) out.new (view bytes budget self.new) }
+        ensures { Did E.mixing (view E.bytes E.budget self.old) (call_of event.entry out.old)
+            (answer_to event.entry result) out.new (view E.bytes E.budget self.new) }
     {
         match (self.phase, event) {
             (Phase::Idle, Event::Start { key, nonce }) => self.begin(key, nonce),
@@ -121,8 +121,8 @@ impl<E: Engine> Endpoint<E> {
     fn begin(&mut self, key: &[u8], nonce: &[u8]) -> Result<usize, Refusal>
         requires { self.old.phase ≡ Idle }
         ensures { (out : List ℕ) →
-            Did mixing (view bytes budget self.old) (Start key.now nonce.now out)
-            (answered (λ _. started) result) out (view bytes budget self.new) }
+            Did E.mixing (view E.bytes E.budget self.old) (Start key.now nonce.now out)
+            (answered (λ _. started) result) out (view E.bytes E.budget self.new) }
     {
         if key.len() != KEY_LENGTH {
             return Err(Refusal::KeyLength);
@@ -138,9 +138,9 @@ impl<E: Engine> Endpoint<E> {
 
     fn send(&mut self, aad: &[u8], message: &[u8], out: &mut [u8]) -> Result<usize, Refusal>
         requires { self.old.phase ≡ Live }
-        ensures { Did mixing (view bytes budget self.old)
+        ensures { Did E.mixing (view E.bytes E.budget self.old)
             (Seal aad.now message.now out.old)
-            (answered sealed result) out.new (view bytes budget self.new) }
+            (answered sealed result) out.new (view E.bytes E.budget self.new) }
     {
         let n = message.len();
         if aad.len() > LONGEST {
@@ -159,9 +159,9 @@ impl<E: Engine> Endpoint<E> {
 
     fn receive(&mut self, aad: &[u8], sealed: &[u8], out: &mut [u8]) -> Result<usize, Refusal>
         requires { self.old.phase ≡ Live }
-        ensures { Did mixing (view bytes budget self.old)
+        ensures { Did E.mixing (view E.bytes E.budget self.old)
             (Open aad.now sealed.now out.old)
-            (answered opened result) out.new (view bytes budget self.new) }
+            (answered opened result) out.new (view E.bytes E.budget self.new) }
     {
         if aad.len() > LONGEST {
             return Err(Refusal::DataLength);
@@ -186,8 +186,8 @@ impl<E: Engine> Endpoint<E> {
     fn finish(&mut self) -> Result<usize, Refusal>
         requires { self.old.phase ≡ Live }
         ensures { (out : List ℕ) →
-            Did mixing (view bytes budget self.old) (Close out)
-            (answered (λ _. closed) result) out (view bytes budget self.new) }
+            Did E.mixing (view E.bytes E.budget self.old) (Close out)
+            (answered (λ _. closed) result) out (view E.bytes E.budget self.new) }
     {
         self.engine.clear();
         self.phase = Phase::Idle;

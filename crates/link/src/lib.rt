@@ -1,4 +1,6 @@
 // One end of a link: authenticated telegrams over any mixing engine.
+#![tactic(auto)]
+
 mod blocks;
 mod cost;
 pub mod endpoint;

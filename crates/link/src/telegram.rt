@@ -24,9 +24,9 @@ const TAG_PAD: u8 = 0x60;
 pub(crate) fn start_session<E: Engine>(e: &mut E, key: &[u8], nonce: &[u8])
     requires key { length key.now ≡ 16 }
     requires nonce { length nonce.now ≡ 8 }
-    requires budget { 3 ≤ budget e.old }
-    ensures bytes { bytes e.new ≡ session_begun mixing key.now nonce.now }
-    ensures budget { budget e.new ≡ budget e.old - 3 }
+    requires budget { 3 ≤ E.budget e.old }
+    ensures bytes { E.bytes e.new ≡ session_begun E.mixing key.now nonce.now }
+    ensures budget { E.budget e.new ≡ E.budget e.old - 3 }
 {
     e.clear();
     put(e, KEY_PAD, key);
@@ -35,14 +35,14 @@ pub(crate) fn start_session<E: Engine>(e: &mut E, key: &[u8], nonce: &[u8])
 
 // Adds a telegram to the session, and writes its sealed bytes at the head of `out`.
 pub(crate) fn seal_telegram<E: Engine>(e: &mut E, aad: &[u8], message: &[u8], out: &mut [u8])
-    requires budget { cost (length aad.now) (length message.now) ≤ budget e.old }
+    requires budget { cost (length aad.now) (length message.now) ≤ E.budget e.old }
     requires room { length message.now + 8 ≤ length out.old }
-    ensures bytes { bytes e.new
-        ≡ after_telegram mixing (bytes e.old) aad.now message.now }
-    ensures budget { budget e.new
-        ≡ budget e.old - cost (length aad.now) (length message.now) }
+    ensures bytes { E.bytes e.new
+        ≡ after_telegram E.mixing (E.bytes e.old) aad.now message.now }
+    ensures budget { E.budget e.new
+        ≡ E.budget e.old - cost (length aad.now) (length message.now) }
     ensures out { out.new
-        ≡ sealing_at mixing (bytes e.old) aad.now message.now
+        ≡ sealing_at E.mixing (E.bytes e.old) aad.now message.now
         ++ drop (length message.now + 8) out.old }
 {
     put(e, DATA_PAD, aad);
@@ -53,16 +53,16 @@ pub(crate) fn seal_telegram<E: Engine>(e: &mut E, aad: &[u8], message: &[u8], ou
 // Deciphers sealed bytes to the head of `out`, and tells whether their tag is the session's.
 fn decipher<E: Engine>(e: &mut E, aad: &[u8], sealed: &[u8], out: &mut [u8]) -> bool
     requires long { 8 ≤ length sealed.now }
-    requires budget { cost (length aad.now) (length sealed.now - 8) ≤ budget e.old }
+    requires budget { cost (length aad.now) (length sealed.now - 8) ≤ E.budget e.old }
     requires room { length sealed.now - 8 ≤ length out.old }
-    ensures told { result ≡ genuine mixing (bytes e.old) aad.now sealed.now }
-    ensures bytes { bytes e.new
-        ≡ after_tag mixing
-        (after_plaintext mixing (bytes e.old) aad.now sealed.now) }
-    ensures budget { budget e.new
-        ≡ budget e.old - cost (length aad.now) (length sealed.now - 8) }
+    ensures told { result ≡ genuine E.mixing (E.bytes e.old) aad.now sealed.now }
+    ensures bytes { E.bytes e.new
+        ≡ after_tag E.mixing
+        (after_plaintext E.mixing (E.bytes e.old) aad.now sealed.now) }
+    ensures budget { E.budget e.new
+        ≡ E.budget e.old - cost (length aad.now) (length sealed.now - 8) }
     ensures out { out.new
-        ≡ plaintext mixing (bytes e.old) aad.now sealed.now
+        ≡ plaintext E.mixing (E.bytes e.old) aad.now sealed.now
         ++ drop (length sealed.now - 8) out.old }
     ensures behind { drop (length sealed.now - 8) out.new
         ≡ drop (length sealed.now - 8) out.old }
@@ -79,18 +79,18 @@ fn decipher<E: Engine>(e: &mut E, aad: &[u8], sealed: &[u8], out: &mut [u8]) -> 
 // message's place is zeroed.
 pub(crate) fn open_telegram<E: Engine>(e: &mut E, aad: &[u8], sealed: &[u8], out: &mut [u8]) -> bool
     requires long { 8 ≤ length sealed.now }
-    requires budget { cost (length aad.now) (length sealed.now - 8) ≤ budget e.old }
+    requires budget { cost (length aad.now) (length sealed.now - 8) ≤ E.budget e.old }
     requires room { length sealed.now - 8 ≤ length out.old }
-    ensures told { result ≡ genuine mixing (bytes e.old) aad.now sealed.now }
-    ensures bytes { bytes e.new
+    ensures told { result ≡ genuine E.mixing (E.bytes e.old) aad.now sealed.now }
+    ensures bytes { E.bytes e.new
         ≡ cond result
-        (after_tag mixing (after_plaintext mixing (bytes e.old) aad.now sealed.now))
-        (bytes e.old) }
-    ensures budget { budget e.new
-        ≡ budget e.old - cost (length aad.now) (length sealed.now - 8) }
+        (after_tag E.mixing (after_plaintext E.mixing (E.bytes e.old) aad.now sealed.now))
+        (E.bytes e.old) }
+    ensures budget { E.budget e.new
+        ≡ E.budget e.old - cost (length aad.now) (length sealed.now - 8) }
     ensures out { out.new
         ≡ cond result
-        (plaintext mixing (bytes e.old) aad.now sealed.now)
+        (plaintext E.mixing (E.bytes e.old) aad.now sealed.now)
         (zeros (length sealed.now - 8))
         ++ drop (length sealed.now - 8) out.old }
 {

@@ -1,5 +1,7 @@
 // Examples and edges of the link, of whole runs and of the one-shot calls. They stand apart so that what they test is
 // proved without them.
+#![tactic(auto)]
+
 #[cfg(test)]
 mod forged;
 #[cfg(test)]

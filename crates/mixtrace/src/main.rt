@@ -1,4 +1,6 @@
 // Takes the published example state through the six rounds, and through one mixing by each form.
+#![tactic(auto)]
+
 use cbeam::both_forms::mixed_by_both;
 use cbeam::example;
 use cbeam::plain::rounds::rows_after;

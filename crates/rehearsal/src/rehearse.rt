@@ -12,13 +12,13 @@ use link::endpoint::Endpoint;
 // Makes a new endpoint over the engine, and the exchanges at it in turn.
 fn rehearse_one<E: Engine>(engine: E, exchanges: &mut [Exchange]) -> Endpoint<E>
     ensures requests { requests_of exchanges.new ≡ requests_of exchanges.old }
-    ensures modelled { Modelled mixing (budget engine) (calls_of exchanges.old) (replies_of exchanges.new)
-        (view bytes budget result) }
-    ensures exact { Exact mixing (budget engine) (calls_of exchanges.old) (replies_of exchanges.new) }
-    ensures conserved { Conserved (budget engine) (calls_of exchanges.old) (replies_of exchanges.new)
-        (budget result.engine) }
-    ensures rehearsed { Rehearsed mixing (budget engine) (calls_of exchanges.old) (replies_of exchanges.new) }
-    ensures in_step { InStepWithAny mixing (budget engine) (calls_of exchanges.old)
+    ensures modelled { Modelled E.mixing (E.budget engine) (calls_of exchanges.old) (replies_of exchanges.new)
+        (view E.bytes E.budget result) }
+    ensures exact { Exact E.mixing (E.budget engine) (calls_of exchanges.old) (replies_of exchanges.new) }
+    ensures conserved { Conserved (E.budget engine) (calls_of exchanges.old) (replies_of exchanges.new)
+        (E.budget result.engine) }
+    ensures rehearsed { Rehearsed E.mixing (E.budget engine) (calls_of exchanges.old) (replies_of exchanges.new) }
+    ensures in_step { InStepWithAny E.mixing (E.budget engine) (calls_of exchanges.old)
         (replies_of exchanges.new) }
 {
     let mut endpoint = Endpoint::new(engine);

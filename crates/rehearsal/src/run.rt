@@ -12,8 +12,8 @@ use link::endpoint::Endpoint;
 // Makes one request at the endpoint.
 fn perform<E: Engine>(endpoint: &mut Endpoint<E>, request: &Request, output: &mut [u8]) -> Answer
     ensures inputs { CallBytes (as_call request.now output.old) }
-    ensures did { Did mixing (view bytes budget endpoint.old) (as_call request.now output.old)
-        (answer_of result) output.new (view bytes budget endpoint.new) }
+    ensures did { Did E.mixing (view E.bytes E.budget endpoint.old) (as_call request.now output.old)
+        (answer_of result) output.new (view E.bytes E.budget endpoint.new) }
 {
     match request {
         Request::Start { key, nonce } => match endpoint.start(key, nonce) {
@@ -41,9 +41,9 @@ pub(crate) fn run<E: Engine>(endpoint: &mut Endpoint<E>, exchanges: &mut [Exchan
     ensures requests { requests_of exchanges.new ≡ requests_of exchanges.old }
     ensures inputs { AllBytes (calls_of exchanges.old) }
     ensures told { replies_of exchanges.new
-        ≡ replies mixing (view bytes budget endpoint.old) (calls_of exchanges.old) }
-    ensures shows { view bytes budget endpoint.new
-        ≡ view_after mixing (view bytes budget endpoint.old) (calls_of exchanges.old) }
+        ≡ replies E.mixing (view E.bytes E.budget endpoint.old) (calls_of exchanges.old) }
+    ensures shows { view E.bytes E.budget endpoint.new
+        ≡ view_after E.mixing (view E.bytes E.budget endpoint.old) (calls_of exchanges.old) }
 {
     for exchange in exchanges.iter_mut() {
         exchange.answer = Some(perform(endpoint, &exchange.request, &mut exchange.output));

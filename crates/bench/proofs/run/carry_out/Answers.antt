@@ -6,8 +6,8 @@ use Rattle.bench.proofs.Replies.{sound, handed_span}
 use Rattle.bench.proofs.Stages.{after_call}
 use Rattle.bench.proofs.run.carry_out.Goals as goal
 
-pub answer-line-requires : goal.answer-line-requires
-answer-line-requires g c =
+pub answer_line-requires : goal.answer_line-requires
+answer_line-requires g c =
     let m = g.E.Engine in
     let d = c.perform-answer.ensures in
     let k = call c.args.pool.now c.args.work.now c.args.command in
@@ -26,7 +26,7 @@ returns g c =
     let k = call c.args.pool.now c.args.work.now c.args.command in
     let s = sound m.mixing (view m.bytes m.budget c.args.endpoint.now) k in
     let few = handed_span c.args.pool.now c.args.work.now c.args.command in
-    let line = c.answer-line.ensures in
+    let line = c.answer_line.ensures in
     record {
       made = after_call c.args.pool.now c.args.work.now c.args.command d line.text;
       text = _;

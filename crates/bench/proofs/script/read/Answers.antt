@@ -44,8 +44,8 @@ returns-in-1-to-3 c =
     let short : length xs < 9 = search rules in
     cut_off xs low high (λ start. search rules) short
 
-pub returns-in-default : goal.returns-in-default
-returns-in-default c =
+pub returns-in_default : goal.returns-in_default
+returns-in_default c =
     let xs = c.args.script.now in
     let empty : length xs ≤ 0 → get_or xs 0 0 ≡ 0 = get_or_past xs 0 0 in
     unknown xs (λ low high. search rules)

@@ -11,8 +11,8 @@ loop-k-init g c = (going_none c.args.input.now _ _ c.requires.budget, record { w
 pub loop-k-preserved : goal.loop-k-preserved
 loop-k-preserved g c =
     let inv = c.loop-k.invariant in
-    let t = c.next-place-i.ensures in
-    let b = c.crypt-byte.ensures in
+    let t = c.next_place-i.ensures in
+    let b = c.crypt_byte.ensures in
     let here : c.loop-k.k < length c.args.input.now = omega arith in
     let byte : Byte g.E.Engine.mixing (op_of c.args.direction) c.args.pad _ _ _ _ _ _ =
     record { at = t.at; ready = t.bytes; left = b.bytes } in (

@@ -21,14 +21,14 @@ pub loop-k-preserved : goal.loop-k-preserved
 loop-k-preserved g c =
     let n = long c.args.n in
     let inv = c.loop-k.invariant in
-    let t = c.next-place-i.ensures in
+    let t = c.next_place-i.ensures in
     let here : c.loop-k.k < length (zeros c.args.n) = omega arith in
     let zero = zero_at c.args.n c.loop-k.k (omega arith) in
-    let same = sym (set-get_or (g.E.Engine.bytes c.next-place-i.new.e) c.next-place-i.result 0) in
+    let same = sym (set-get_or (g.E.Engine.bytes c.next_place-i.new.e) c.next_place-i.result 0) in
     let byte : Byte g.E.Engine.mixing op.get c.args.pad _ _ _ _ 0 _ =
     record { at = t.at; ready = t.bytes; left = same } in (
       going_more _ _ here byte zero inv.0 t.budget refl,
-      writing_more _ _ here byte zero inv.1 _ (ap (λ q. q ∷ []) (sym c.byte-at.ensures)),
+      writing_more _ _ here byte zero inv.1 _ (ap (λ q. q ∷ []) (sym c.byte_at.ensures)),
     )
 
 pub returns : goal.returns

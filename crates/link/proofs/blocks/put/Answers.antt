@@ -8,7 +8,7 @@ loop-b-init g c = going_none c.args.input.now _ _ c.requires
 
 pub loop-b-preserved : goal.loop-b-preserved
 loop-b-preserved g c =
-    let t = c.next-place-i.ensures in
+    let t = c.next_place-i.ensures in
     let x = c.xor_at.ensures in
     let byte : Byte g.E.Engine.mixing op.put c.args.pad _ _ _ _ _ _ =
     record { at = t.at; ready = t.bytes; left = x.bytes } in

@@ -27,7 +27,7 @@ returns g c =
     length-told m op.dec 0x50 (λ old x. refl) (take n b) (after_data m v a) 0 ∙ long in
     record {
       told =
-          c.same-tag.ensures
+          c.same_tag.ensures
           ∙ ap₂ bytes_eq (c.get.ensures.out ∙ append-nil _ ∙ ap (tag_of m) e₂) (take_rest b n);
       bytes = c.get.ensures.bytes ∙ ap (after_tag m) e₂;
       budget = omega (arith, c.put.ensures.budget, c.crypt.ensures.budget, c.get.ensures.budget, long);

@@ -62,13 +62,13 @@ returns-in-Mixings c =
       short = omega (arith, short_number c.number.result (omega arith));
     }
 
-pub returns-in-default : goal.returns-in-default
-returns-in-default c =
+pub returns-in_default : goal.returns-in_default
+returns-in_default c =
     let number = rw c.number.ensures.value at c.decimal.ensures in
     let all = adds_then (codes "no ") c.word.ensures _ number in
     record {
       text =
           subst (λ (t : List ℕ). Adds c.args.self.now t c.decimal.new.self)
-          (plain_text c.args.why c.in-default.not-Mixings) all;
+          (plain_text c.args.why c.in_default.not-Mixings) all;
       short = omega (arith, short_number c.number.result (omega arith));
     }

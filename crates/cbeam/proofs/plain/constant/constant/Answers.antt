@@ -16,6 +16,6 @@ pub returns-in-5 : goal.returns-in-5
 unfolding constants bit
 returns-in-5 c = ap constants (sym c.in-5.is)
 
-pub returns-in-default : goal.returns-in-default
+pub returns-in_default : goal.returns-in_default
 unfolding bit
-returns-in-default c = sym (even_none c.args.number (omega arith))
+returns-in_default c = sym (even_none c.args.number (omega arith))

@@ -4,4 +4,4 @@ use Rattle.cbeam.proofs.Permuted.{pi_rows}
 use Rattle.cbeam.proofs.plain.rounds.permuted.Goals as goal
 
 pub returns : goal.returns
-returns c = ap bytes_of c.first-rounds.ensures ∙ sym (pi_rows c.args.rows)
+returns c = ap bytes_of c.first_rounds.ensures ∙ sym (pi_rows c.args.rows)

@@ -9,9 +9,9 @@ pub returns : goal.returns
 returns c =
     let q : List ℕ = c.args.words.now in
     let r : List ℕ =
-    c.stepped-lanes.result ∷ c.stepped-lanes-2.result
-    ∷ c.stepped-lanes-3.result ∷ c.stepped-lanes-4.result ∷ [] in
+    c.stepped_lanes.result ∷ c.stepped_lanes-2.result
+    ∷ c.stepped_lanes-3.result ∷ c.stepped_lanes-4.result ∷ [] in
     along_rows nonlinear linear q r
     (below_four (λ u. (m : ℕ) → m < 4 → lane (get_or r u 0) m ≡ nonlinear (linear (lane (get_or q u 0) m)))
-    c.stepped-lanes.ensures c.stepped-lanes-2.ensures
-    c.stepped-lanes-3.ensures c.stepped-lanes-4.ensures)
+    c.stepped_lanes.ensures c.stepped_lanes-2.ensures
+    c.stepped_lanes-3.ensures c.stepped_lanes-4.ensures)

@@ -3,4 +3,4 @@ use Rattle.cbeam.proofs.planar.down.nonlinear_word.Goals as goal
 
 pub returns : goal.returns
 returns c =
-    down_columns c.args.x c.args.above c.phi5-words.result c.ranges.above.fits c.phi5-words.ensures
+    down_columns c.args.x c.args.above c.phi5_words.result c.ranges.above.fits c.phi5_words.ensures

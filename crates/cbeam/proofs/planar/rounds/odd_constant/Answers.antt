@@ -12,6 +12,6 @@ pub returns-in-1 : goal.returns-in-1
 unfolding bit constants
 returns-in-1 c = packed _ 3 tt (suc (2 * c.args.k)) (omega arith)
 
-pub returns-in-default : goal.returns-in-default
+pub returns-in_default : goal.returns-in_default
 unfolding bit constants
-returns-in-default c = packed _ 5 tt (suc (2 * c.args.k)) (omega arith)
+returns-in_default c = packed _ 5 tt (suc (2 * c.args.k)) (omega arith)

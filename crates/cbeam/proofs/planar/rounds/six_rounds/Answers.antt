@@ -9,7 +9,7 @@ unfolding bit
 loop-k-preserved c =
     let k : ℕ = c.loop-k.k in
     let next : suc (suc (2 * k)) ≡ 2 * (k + 1) = omega arith in
-    c.two-rounds-s.ensures (2 * k) (suc (2 * k)) (omega arith) c.odd-constant.ensures
+    c.two_rounds-s.ensures (2 * k) (suc (2 * k)) (omega arith) c.odd_constant.ensures
     ∙ ap (λ s. round (suc (2 * k)) (round (2 * k) s)) c.loop-k.invariant
     ∙ ap (λ n. rounds n (laid c.args.words)) next
 

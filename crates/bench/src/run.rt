@@ -45,8 +45,8 @@ fn admit(script: &[u8], pool: usize, free: usize) -> Result<(Command, &[u8]), St
 // Starts a session, whatever output is lent to it.
 fn start<'x, E: Engine>(endpoint: &mut Endpoint<E>, key: &'x [u8], nonce: &'x [u8]) -> Answer
     ensures { (out : List ℕ) →
-        Did mixing (view bytes budget endpoint.old) (Start key.now nonce.now out)
-        (answer_of result) out (view bytes budget endpoint.new) }
+        Did E.mixing (view E.bytes E.budget endpoint.old) (Start key.now nonce.now out)
+        (answer_of result) out (view E.bytes E.budget endpoint.new) }
 {
     match endpoint.start(key, nonce) {
         Ok(()) => Answer::Started,
@@ -62,9 +62,9 @@ fn perform<E: Engine>(
     work: &mut [u8],
 ) -> Answer
     requires { lies (length pool.now) command ≡ true }
-    ensures { Did mixing (view bytes budget endpoint.old)
+    ensures { Did E.mixing (view E.bytes E.budget endpoint.old)
         (call pool.now work.old command)
-        (answer_of result) work.new (view bytes budget endpoint.new) }
+        (answer_of result) work.new (view E.bytes E.budget endpoint.new) }
 {
     match command {
         Command::Start { key, nonce } => {
@@ -100,9 +100,9 @@ fn carry_out<E: Engine>(
 )
     requires lie { lies (length pool.now) command ≡ true }
     requires room { Room listing.old (room command) }
-    ensures { Carried mixing pool.now command
-        (view bytes budget endpoint.old) work.old listing.old
-        (view bytes budget endpoint.new) work.new listing.new }
+    ensures { Carried E.mixing pool.now command
+        (view E.bytes E.budget endpoint.old) work.old listing.old
+        (view E.bytes E.budget endpoint.new) work.new listing.new }
 {
     let answer = perform(endpoint, command, pool, work);
     listing.answer_line(command, answer, work);
@@ -118,13 +118,13 @@ fn step<'a, E: Engine>(
 ) -> Result<&'a [u8], Stop>
     ensures { elim result [
       | Ok more ↦
-          Went mixing pool.now rest.now
-          (view bytes budget endpoint.old) work.old listing.old
-          (view bytes budget endpoint.new) work.new listing.new more.now
+          Went E.mixing pool.now rest.now
+          (view E.bytes E.budget endpoint.old) work.old listing.old
+          (view E.bytes E.budget endpoint.new) work.new listing.new more.now
       | Err stop ↦
           Stayed pool.now rest.now
-          (view bytes budget endpoint.old) work.old listing.old
-          (view bytes budget endpoint.new) work.new listing.new stop
+          (view E.bytes E.budget endpoint.old) work.old listing.old
+          (view E.bytes E.budget endpoint.new) work.new listing.new stop
     ] }
 {
     let (command, more) = admit(rest, pool.len(), listing.free())?;
@@ -142,9 +142,9 @@ fn carry_out_all<E: Engine>(
 )
     requires small { length script.now ≤ 65536 }
     requires spare { Room listing.old 30 }
-    ensures { Lines mixing pool.now script.now
-        (view bytes budget endpoint.old) work.old listing.old
-        (view bytes budget endpoint.new) work.new listing.new }
+    ensures { Lines E.mixing pool.now script.now
+        (view E.bytes E.budget endpoint.old) work.old listing.old
+        (view E.bytes E.budget endpoint.new) work.new listing.new }
 {
     let mut rest = script;
     while !rest.is_empty() {
@@ -167,9 +167,9 @@ pub fn run<E: Engine>(
     work: &mut [u8],
     listing: &mut [u8],
 ) -> Result<usize, RunRefusal>
-    ensures did { RunDid mixing (view bytes budget endpoint.old)
+    ensures did { RunDid E.mixing (view E.bytes E.budget endpoint.old)
         script.now pool.now work.old listing.old
-        (told run_refusal result) (view bytes budget endpoint.new) work.new listing.new }
+        (told run_refusal result) (view E.bytes E.budget endpoint.new) work.new listing.new }
 {
     if script.len() > LONGEST_SCRIPT {
         return Err(RunRefusal::ScriptLength);

@@ -5,3 +5,5 @@ pub mod Heads
 pub mod Replies
 pub mod Entries
 pub mod Stages
+pub mod Underway
+pub mod Runs

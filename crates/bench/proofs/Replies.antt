@@ -1,5 +1,5 @@
 -- Laws of the reply to a call, and to the call that a command is.
-use Rattle.std.proofs.Common.{◌≡◌, ℕ, ◌+◌, ◌-◌, ◌≤◌, min, Bool, true, false, List, ◌++◌, length, drop, refl, arith}
+use Rattle.std.proofs.Common.{◌≡◌, ℕ, ◌+◌, ◌-◌, ◌≤◌, Bool, true, false, List, ◌++◌, length, drop, refl, arith}
 use Rattle.std.proofs.lemmas.List.{length-append, length-take}
 use Rattle.link.specs.Calls.{Call, Start, Seal, Open, Left, Close}
 use Rattle.link.specs.Calls.{Answer, started, sealed, opened, mixings_left, closed, refused}

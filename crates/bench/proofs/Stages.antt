@@ -1,21 +1,17 @@
 -- A run under way: what is ahead of it gives what the whole run gives.
-use Rattle.std.proofs.Common.{◌≡◌, ℕ, ◌+◌, ◌-◌, ◌<◌, ◌≤◌, List, [], ◌∷◌, ◌++◌, length, get_or, drop, sym, refl, ap, ◌∙◌, subst, arith}
-use Rattle.std.proofs.lemmas.List.{length-drop, nil_from_length, drop-drop}
+use Rattle.std.proofs.Common.{◌≡◌, ℕ, ◌-◌, List, [], ◌∷◌, ◌++◌, length, refl, ap, ◌∙◌}
 use Rattle.link.specs.Calls.{Answer, Reply}
-use Rattle.link.specs.Questions.{Verdict, passed, stopped}
+use Rattle.link.specs.Questions.{passed, stopped}
 use Rattle.link.specs.Steps.{View, Did, reply, step}
 use Rattle.bench.specs.declared.command.Command.{Command}
 use Rattle.bench.specs.declared.listing.Listing.{Listing}
-use Rattle.bench.specs.declared.stop.Stop.{Stop}
-use Rattle.bench.specs.Commands.{size, command_of}
+use Rattle.bench.specs.Commands.{command_of}
 use Rattle.bench.specs.Pools.{call}
-use Rattle.bench.specs.Refusals.{stop_number}
-use Rattle.bench.specs.Runs.{verdict_at, Entry, entries, Stage, with_line, after_command, after_entries}
-use Rattle.bench.specs.Steps.{stage, Went, Stayed, Lines}
+use Rattle.bench.specs.Runs.{verdict_at, Entry, Stage, with_line, after_command, after_entries}
+use Rattle.bench.specs.Steps.{stage}
 use Rattle.bench.specs.Texts.{told_line, line, ended, stopped_at, ending_line}
-use Rattle.bench.specs.Writing.{Adds, Room, text_of, free}
-use Rattle.bench.proofs.Additions.{text_added, behind_added, length-text}
-use Rattle.bench.proofs.Entries.{entry, entries_go, entries_first, entries_none}
+use Rattle.bench.specs.Writing.{Adds, text_of}
+use Rattle.bench.proofs.Additions.{text_added}
 
 -- the stage after a command, by its call and its line
 pub after_call :

@@ -6,7 +6,7 @@ use Rattle.bench.specs.declared.command.Command.{Command}
 use Rattle.bench.specs.Commands.{known, size, command_of}
 use Rattle.bench.specs.Pools.{lies, call, room}
 use Rattle.bench.specs.Refusals.{Told, listed, refused}
-use Rattle.bench.specs.Texts.{told_line, line, Ending, ended, stopped_at, ending_line}
+use Rattle.bench.specs.Texts.{told_line, line, ended, stopped_at, ending_line}
 
 -- the questions at a command, in their order: `rest` is the script from there on, `pool` the pool's length, and so many
 -- bytes are free in the listing

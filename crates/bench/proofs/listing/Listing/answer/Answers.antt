@@ -1,4 +1,4 @@
-use Rattle.std.proofs.Common.{◌≡◌, ℕ, ◌≤◌, ◌⊎◌, List, ◌++◌, length, take, codes, sym, ap, inl, inr, arith}
+use Rattle.std.proofs.Common.{◌≡◌, ℕ, ◌≤◌, ◌⊎◌, List, ◌++◌, length, take, codes, ap, inl, inr, arith}
 use native.Mathlib.Nat.{sub-zero}
 use Rattle.rehearsal.specs.declared.exchange.Answer.{Answer}
 use Rattle.rehearsal.specs.declared.exchange.Answer.TheVariants.{Sealed, Opened}

@@ -1,7 +1,6 @@
-use Rattle.std.proofs.Common.{◌≡◌, ℕ, ◌/◌, ◌%◌, List, [], ◌∷◌, ◌++◌, get_or, take, subst, arith}
+use Rattle.std.proofs.Common.{[], ◌∷◌, take, arith}
 use Rattle.std.proofs.lemmas.List.{take_all}
 use Rattle.bench.specs.Texts.{hex}
-use Rattle.bench.specs.Writing.{Adds}
 use Rattle.bench.proofs.Additions.{adds_none, adds_then}
 use Rattle.bench.proofs.Hexadecimal.{hex_more, length-hex-take}
 use Rattle.bench.proofs.listing.Listing.hex.Goals as goal

@@ -1,0 +1,69 @@
+-- A whole run: refused before it begins, or listed.
+use Rattle.std.proofs.Common.{◌≡◌, ℕ, ◌<◌, ◌≤◌, true, leb, List, [], ◌∷◌, ◌++◌, length, take, drop, sym, ap, ◌∙◌}
+use Rattle.std.proofs.lemmas.Bool.{le-leb, lt-leb}
+use Rattle.std.proofs.lemmas.List.{take-append-drop}
+use Rattle.link.specs.Questions.{ask, Verdict, passed, stopped, verdict}
+use Rattle.link.specs.Steps.{View}
+use Rattle.bench.specs.declared.listing.Listing.{Listing}
+use Rattle.bench.specs.Refusals.{listed, refused}
+use Rattle.bench.specs.Runs.{run_questions, entries, after_entries, Ran, listing_with, ran_by, ran, RunDid}
+use Rattle.bench.specs.Steps.{stage, Lines}
+use Rattle.bench.specs.Writing.{text_of}
+use Rattle.bench.proofs.Additions.{length-text}
+
+module _ (mix : List ℕ → List ℕ) (e : View) (script pool work listing : List ℕ) where
+  by_verdict : (v : Verdict) → verdict (run_questions script listing) ≡ v → ran mix e script pool work listing ≡ ran_by v mix e script pool work listing
+  unfolding ran
+  by_verdict v h = ap (λ w. ran_by w mix e script pool work listing) h
+
+  refused_by :
+      (n : ℕ) → verdict (run_questions script listing) ≡ stopped n [] →
+      RunDid mix e script pool work listing (refused n []) e work listing
+  refused_by n h =
+      let is = sym (by_verdict (stopped n []) h) in
+      record {
+        tells = ap (λ (r : Ran). r.told) is;
+        shows = ap (λ (r : Ran). r.view) is;
+        works = ap (λ (r : Ran). r.work) is;
+        lists = ap (λ (r : Ran). r.listing) is;
+      }
+
+  pub script_too_long :
+      65536 < length script → RunDid mix e script pool work listing (refused 11 []) e work listing
+  script_too_long h =
+      refused_by 11 (ap (λ b. verdict (ask 11 b ∷ ask 12 (leb 80 (length listing)) ∷ [])) (lt-leb (length script) 65536 h))
+
+  pub listing_too_short :
+      length script ≤ 65536 → length listing < 80 →
+      RunDid mix e script pool work listing (refused 12 []) e work listing
+  listing_too_short s h =
+      refused_by 12
+      (ap (λ b. verdict (ask 11 b ∷ ask 12 (leb 80 (length listing)) ∷ [])) (le-leb (length script) 65536 s)
+      ∙ ap (λ b. verdict (ask 11 true ∷ ask 12 b ∷ [])) (lt-leb 80 (length listing) h))
+
+  -- all of them are carried out over an empty listing `l`
+  pub run_listed :
+      {l l' : Listing} {e' : View} {work' listing' : List ℕ} →
+      length script ≤ 65536 → 80 ≤ length listing → l.bytes.now ≡ listing → l.used ≡ 0 →
+      Lines mix pool script e work l e' work' l' → listing' ≡ l'.bytes.now →
+      RunDid mix e script pool work listing (listed l'.used) e' work' listing'
+  run_listed {l} {l'} {e'} {work'} {listing'} s h all none lines back =
+      let pass =
+      ap (λ b. verdict (ask 11 b ∷ ask 12 (leb 80 (length listing)) ∷ [])) (le-leb (length script) 65536 s)
+      ∙ ap (λ b. verdict (ask 11 true ∷ ask 12 b ∷ [])) (le-leb 80 (length listing) h) in
+      let begins : stage e work l ≡ record { view = e; work = work; text = [] } =
+      λ i. record { view = e; work = work; text = ap (λ k. take k l.bytes.now) none i } in
+      let made : stage e' work' l' ≡ after_entries mix pool (length listing) (entries 0 0 script) (record { view = e; work = work; text = [] }) =
+      lines.made ∙ ap (λ xs. after_entries mix pool (length xs) (entries 0 0 script) (stage e work l)) all
+      ∙ ap (after_entries mix pool (length listing) (entries 0 0 script)) begins in
+      let is = ap (listing_with listing) made ∙ sym (by_verdict passed pass) in
+      let long = sym (length-text l') in
+      record {
+        tells = ap listed long ∙ ap (λ (r : Ran). r.told) is;
+        shows = ap (λ (r : Ran). r.view) is;
+        works = ap (λ (r : Ran). r.work) is;
+        lists =
+            back ∙ sym (take-append-drop l'.used l'.bytes.now)
+            ∙ ap (λ xs. text_of l' ++ xs) (lines.kept ∙ ap (drop l'.used) all ∙ ap (λ k. drop k listing) long)
+            ∙ ap (λ (r : Ran). r.listing) is;
+      }

@@ -1,0 +1,30 @@
+use Rattle.std.proofs.Common.{rules, sym, refl}
+use Rattle.link.specs.Steps.{view}
+use Rattle.bench.proofs.Runs.{script_too_long, listing_too_short, run_listed}
+use Rattle.bench.proofs.run.run.Goals as goal
+
+pub returns-then-script-gt-LONGEST_SCRIPT : goal.returns-then-script-gt-LONGEST_SCRIPT
+returns-then-script-gt-LONGEST_SCRIPT g c = record {
+  did =
+      script_too_long g.E.Engine.mixing (view g.E.Engine.bytes g.E.Engine.budget c.args.endpoint.now)
+      c.args.script.now c.args.pool.now c.args.work.now c.args.listing.now c.if-script-gt-LONGEST_SCRIPT.true;
+}
+
+pub returns-then-listing-lt-SHORTEST_LISTING : goal.returns-then-listing-lt-SHORTEST_LISTING
+returns-then-listing-lt-SHORTEST_LISTING g c = record {
+  did =
+      listing_too_short g.E.Engine.mixing (view g.E.Engine.bytes g.E.Engine.budget c.args.endpoint.now)
+      c.args.script.now c.args.pool.now c.args.work.now c.args.listing.now
+      c.if-script-gt-LONGEST_SCRIPT.false c.if-listing-lt-SHORTEST_LISTING.true;
+}
+
+pub returns : goal.returns
+returns g c =
+    let lines = c.carry_out_all.ensures in
+    record {
+      did =
+          run_listed g.E.Engine.mixing (view g.E.Engine.bytes g.E.Engine.budget c.args.endpoint.now)
+          c.args.script.now c.args.pool.now c.args.work.now c.args.listing.now
+          c.if-script-gt-LONGEST_SCRIPT.false c.if-listing-lt-SHORTEST_LISTING.false refl refl lines
+          (search (rules, sym lines.same));
+    }

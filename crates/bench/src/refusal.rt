@@ -1,4 +1,4 @@
-// Why a run or a job is refused; the definitions `run-refusal` and `job-refusal` give each case its number and values.
+// Why a run or a job is refused; the definitions `run_refusal` and `job_refusal` give each case its number and values.
 
 #[derive(Clone, Copy, PartialEq, Eq, Debug)]
 pub enum RunRefusal {

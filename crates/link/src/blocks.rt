@@ -40,8 +40,8 @@ fn next_place<E: Engine>(e: &mut E, pad: u8, i: usize) -> usize
 
 // Closes the last block, which has come to the place i.
 fn finish<E: Engine>(e: &mut E, pad: u8, i: usize)
-    requires i_bound { i ≤ 8 }
-    requires bound { 1 ≤ E.budget e.old }
+    requires within { i ≤ 8 }
+    requires budget { 1 ≤ E.budget e.old }
     ensures bytes { E.bytes e.new ≡ closed E.mixing pad (E.bytes e.old) i }
     ensures budget { E.budget e.new ≡ E.budget e.old - 1 }
 {

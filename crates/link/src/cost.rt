@@ -13,8 +13,8 @@ fn mixings_for(n: usize) -> u32
 
 // The mixings that a telegram with so many bytes of associated data and of message takes.
 pub(crate) fn telegram_cost(aad: usize, message: usize) -> u32
-    requires aad_bound { aad ≤ 65535 }
-    requires message_bound { message ≤ 65535 }
+    requires aad_within { aad ≤ 65535 }
+    requires message_within { message ≤ 65535 }
     ensures { result ≡ cost aad message }
 {
     mixings_for(aad) + mixings_for(message) + 1

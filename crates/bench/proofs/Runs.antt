@@ -1,18 +1,28 @@
 -- A whole run: refused before it begins, or listed.
-use Rattle.std.proofs.Common.{◌≡◌, ℕ, ◌<◌, ◌≤◌, true, leb, List, [], ◌∷◌, ◌++◌, length, take, drop, sym, ap, ◌∙◌}
+use Rattle.std.proofs.Common.{◌≡◌, ℕ, ◌<◌, ◌≤◌, Bool, leb, List, [], ◌∷◌, ◌++◌, length, take, drop, sym, refl, ap, ◌∙◌}
 use Rattle.std.proofs.lemmas.Bool.{le-leb, lt-leb}
 use Rattle.std.proofs.lemmas.List.{take-append-drop}
 use Rattle.link.specs.Questions.{ask, Verdict, passed, stopped, verdict}
 use Rattle.link.specs.Steps.{View}
 use Rattle.bench.specs.declared.listing.Listing.{Listing}
 use Rattle.bench.specs.Refusals.{listed, refused}
-use Rattle.bench.specs.Runs.{run_questions, entries, after_entries, Ran, listing_with, ran_by, ran, RunDid}
+use Rattle.bench.specs.Runs.{Stage, run_questions, entries, after_entries, Ran, listing_with, ran_by, ran, RunDid}
 use Rattle.bench.specs.Steps.{stage, Lines}
 use Rattle.bench.specs.Writing.{text_of}
 use Rattle.bench.proofs.Additions.{length-text}
 
 module _ (mix : List ℕ → List ℕ) (e : View) (script pool work listing : List ℕ) where
-  by_verdict : (v : Verdict) → verdict (run_questions script listing) ≡ v → ran mix e script pool work listing ≡ ran_by v mix e script pool work listing
+  -- by the answers to the two questions
+  asked :
+      {s l : Bool} → leb (length script) 65536 ≡ s → leb 80 (length listing) ≡ l →
+      verdict (run_questions script listing) ≡ verdict (ask 11 s ∷ ask 12 l ∷ [])
+  asked {s} hs hl =
+      ap (λ b. verdict (ask 11 b ∷ ask 12 (leb 80 (length listing)) ∷ [])) hs
+      ∙ ap (λ b. verdict (ask 11 s ∷ ask 12 b ∷ [])) hl
+
+  by_verdict :
+      (v : Verdict) → verdict (run_questions script listing) ≡ v →
+      ran mix e script pool work listing ≡ ran_by v mix e script pool work listing
   unfolding ran
   by_verdict v h = ap (λ w. ran_by w mix e script pool work listing) h
 
@@ -31,15 +41,13 @@ module _ (mix : List ℕ → List ℕ) (e : View) (script pool work listing : Li
   pub script_too_long :
       65536 < length script → RunDid mix e script pool work listing (refused 11 []) e work listing
   script_too_long h =
-      refused_by 11 (ap (λ b. verdict (ask 11 b ∷ ask 12 (leb 80 (length listing)) ∷ [])) (lt-leb (length script) 65536 h))
+      refused_by 11 (asked (lt-leb (length script) 65536 h) refl)
 
   pub listing_too_short :
       length script ≤ 65536 → length listing < 80 →
       RunDid mix e script pool work listing (refused 12 []) e work listing
   listing_too_short s h =
-      refused_by 12
-      (ap (λ b. verdict (ask 11 b ∷ ask 12 (leb 80 (length listing)) ∷ [])) (le-leb (length script) 65536 s)
-      ∙ ap (λ b. verdict (ask 11 true ∷ ask 12 b ∷ [])) (lt-leb 80 (length listing) h))
+      refused_by 12 (asked (le-leb (length script) 65536 s) (lt-leb 80 (length listing) h))
 
   -- all of them are carried out over an empty listing `l`
   pub run_listed :
@@ -48,12 +56,11 @@ module _ (mix : List ℕ → List ℕ) (e : View) (script pool work listing : Li
       Lines mix pool script e work l e' work' l' → listing' ≡ l'.bytes.now →
       RunDid mix e script pool work listing (listed l'.used) e' work' listing'
   run_listed {l} {l'} {e'} {work'} {listing'} s h all none lines back =
-      let pass =
-      ap (λ b. verdict (ask 11 b ∷ ask 12 (leb 80 (length listing)) ∷ [])) (le-leb (length script) 65536 s)
-      ∙ ap (λ b. verdict (ask 11 true ∷ ask 12 b ∷ [])) (le-leb 80 (length listing) h) in
-      let begins : stage e work l ≡ record { view = e; work = work; text = [] } =
+      let pass = asked (le-leb (length script) 65536 s) (le-leb 80 (length listing) h) in
+      let first : Stage = record { view = e; work = work; text = [] } in
+      let begins : stage e work l ≡ first =
       λ i. record { view = e; work = work; text = ap (λ k. take k l.bytes.now) none i } in
-      let made : stage e' work' l' ≡ after_entries mix pool (length listing) (entries 0 0 script) (record { view = e; work = work; text = [] }) =
+      let made : stage e' work' l' ≡ after_entries mix pool (length listing) (entries 0 0 script) first =
       lines.made ∙ ap (λ xs. after_entries mix pool (length xs) (entries 0 0 script) (stage e work l)) all
       ∙ ap (after_entries mix pool (length listing) (entries 0 0 script)) begins in
       let is = ap (listing_with listing) made ∙ sym (by_verdict passed pass) in

@@ -1,4 +1,4 @@
--- A run under way: what is ahead of it gives what the whole run gives.
+-- The stage of a run after one command, and what one entry of it gives.
 use Rattle.std.proofs.Common.{◌≡◌, ℕ, ◌-◌, List, [], ◌∷◌, ◌++◌, length, refl, ap, ◌∙◌}
 use Rattle.link.specs.Calls.{Answer, Reply}
 use Rattle.link.specs.Questions.{passed, stopped}

@@ -1,6 +1,7 @@
 -- Laws of what is written into a listing.
-use Rattle.std.proofs.Common.{◌≡◌, ℕ, ◌+◌, ◌<◌, ◌≤◌, List, [], ◌∷◌, ◌++◌, length, get_or, take, drop, set, sym, refl, ap, ◌∙◌, add-zero, add-one, arith}
-use Rattle.std.proofs.lemmas.List.{append_assoc, length-append, length-take-le, take-append-drop, take_at, drop_at, drop-drop, set_split, take_more}
+use Rattle.std.proofs.Common.{◌≡◌, ℕ, ◌+◌, ◌≤◌, List, [], ◌++◌, length, take, drop, sym, refl, ap, ◌∙◌, add-zero, arith}
+use borrow.Rule.Slice.PartMut.{put_mid}
+use Rattle.std.proofs.lemmas.List.{append_assoc, length-append, length-take-le, take-append-drop, take_at, drop_at, drop-drop}
 use Rattle.bench.specs.declared.listing.Listing.{Listing}
 use Rattle.bench.specs.Writing.{written, Adds, text_of}
 
@@ -38,9 +39,10 @@ module _ (at : ℕ) (t old : List ℕ) (fits : at + length t ≤ length old) whe
       ∙ ap (λ f. (take at old ++ t) ++ (u ++ f)) far
       ∙ simp append_assoc
 
-pub written_one : (at b : ℕ) (old : List ℕ) → at < length old → set old at b ≡ written at (b ∷ []) old
+-- a text that is copied over the bytes from a place on
+pub written_over : (at n : ℕ) (t old : List ℕ) → n ≡ length t → put_mid at n old t ≡ written at t old
 unfolding written
-written_one at b old h = rw add-one (set_split old at b h)
+written_over at n t old h = rw (h, drop-drop) refl
 
 -- ---- a text in a listing
 
@@ -78,12 +80,6 @@ module _ {l m : Listing} (t : List ℕ) (a : Adds l t m) where
   behind_added =
       ap (λ k. drop k m.bytes.now) a.used ∙ ap (drop (l.used + length t)) a.bytes
       ∙ behind_written l.used t l.bytes.now fits ∙ ap (λ k. drop k l.bytes.now) (sym a.used)
-
--- one element more of a list that is being added
-pub adds_more :
-    {l m n : Listing} (w : List ℕ) (i : ℕ) → Adds l (take i w) m → i < length w → Adds m (get_or w i 0 ∷ []) n →
-    Adds l (take (i + 1) w) n
-adds_more w i p h q = rw (take_more w i 0) (adds_then (take i w) p (get_or w i 0 ∷ []) q)
 
 pub length-text : (l : Listing) → length (text_of l) ≡ l.used
 length-text l = length-take-le l.used l.bytes.now l.within

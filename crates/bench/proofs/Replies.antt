@@ -11,7 +11,7 @@ use Rattle.bench.specs.declared.command.Part.{Part}
 use Rattle.bench.specs.declared.command.Command.{Command}
 use Rattle.bench.specs.declared.command.Command.TheVariants as command
 use Rattle.bench.specs.Pools.{part_of, call, span}
-use Rattle.bench.specs.Texts.{bytes_told}
+use Rattle.link.specs.Calls.{bytes_told}
 
 -- the length of the message or of the sealed bytes that a call hands over
 abbrev pub handed : Call → ℕ

@@ -4,10 +4,9 @@ use Rattle.std.proofs.lemmas.Bool.{le-leb, lt-leb}
 use Rattle.std.proofs.lemmas.List.{take-append-drop}
 use Rattle.link.specs.Questions.{ask, Verdict, passed, stopped, verdict}
 use Rattle.link.specs.Steps.{View}
-use Rattle.bench.specs.declared.listing.Listing.{Listing}
 use Rattle.bench.specs.Refusals.{listed, refused}
 use Rattle.bench.specs.Runs.{Stage, run_questions, entries, after_entries, Ran, listing_with, ran_by, ran, RunDid}
-use Rattle.bench.specs.Steps.{stage, Lines}
+use Rattle.bench.specs.Steps.{State, stage, Lines}
 use Rattle.bench.specs.Writing.{text_of}
 use Rattle.bench.proofs.Additions.{length-text}
 
@@ -49,28 +48,31 @@ module _ (mix : List ℕ → List ℕ) (e : View) (script pool work listing : Li
   listing_too_short s h =
       refused_by 12 (asked (le-leb (length script) 65536 s) (lt-leb 80 (length listing) h))
 
-  -- all of them are carried out over an empty listing `l`
+  -- all of them are carried out from a state with an empty listing
   pub run_listed :
-      {l l' : Listing} {e' : View} {work' listing' : List ℕ} →
-      length script ≤ 65536 → 80 ≤ length listing → l.bytes.now ≡ listing → l.used ≡ 0 →
-      Lines mix pool script e work l e' work' l' → listing' ≡ l'.bytes.now →
-      RunDid mix e script pool work listing (listed l'.used) e' work' listing'
-  run_listed {l} {l'} {e'} {work'} {listing'} s h all none lines back =
-      let pass = asked (le-leb (length script) 65536 s) (le-leb 80 (length listing) h) in
+      {s s' : State} {n : ℕ} {e' : View} {work' listing' : List ℕ} →
+      length script ≤ 65536 → 80 ≤ length listing →
+      s.view ≡ e → s.work ≡ work → s.listing.bytes.now ≡ listing → s.listing.used ≡ 0 →
+      Lines mix pool script s s' →
+      n ≡ s'.listing.used → e' ≡ s'.view → work' ≡ s'.work → listing' ≡ s'.listing.bytes.now →
+      RunDid mix e script pool work listing (listed n) e' work' listing'
+  run_listed {s} {s'} short long view works all none lines told shown left back =
+      let l = s'.listing in
+      let pass = asked (le-leb (length script) 65536 short) (le-leb 80 (length listing) long) in
       let first : Stage = record { view = e; work = work; text = [] } in
-      let begins : stage e work l ≡ first =
-      λ i. record { view = e; work = work; text = ap (λ k. take k l.bytes.now) none i } in
-      let made : stage e' work' l' ≡ after_entries mix pool (length listing) (entries 0 0 script) first =
-      lines.made ∙ ap (λ xs. after_entries mix pool (length xs) (entries 0 0 script) (stage e work l)) all
+      let begins : stage s ≡ first =
+      λ i. record { view = view i; work = works i; text = ap (λ k. take k s.listing.bytes.now) none i } in
+      let made : stage s' ≡ after_entries mix pool (length listing) (entries 0 0 script) first =
+      lines.made ∙ ap (λ xs. after_entries mix pool (length xs) (entries 0 0 script) (stage s)) all
       ∙ ap (after_entries mix pool (length listing) (entries 0 0 script)) begins in
       let is = ap (listing_with listing) made ∙ sym (by_verdict passed pass) in
-      let long = sym (length-text l') in
+      let end = sym (length-text l) in
       record {
-        tells = ap listed long ∙ ap (λ (r : Ran). r.told) is;
-        shows = ap (λ (r : Ran). r.view) is;
-        works = ap (λ (r : Ran). r.work) is;
+        tells = ap listed (told ∙ end) ∙ ap (λ (r : Ran). r.told) is;
+        shows = shown ∙ ap (λ (r : Ran). r.view) is;
+        works = left ∙ ap (λ (r : Ran). r.work) is;
         lists =
-            back ∙ sym (take-append-drop l'.used l'.bytes.now)
-            ∙ ap (λ xs. text_of l' ++ xs) (lines.kept ∙ ap (drop l'.used) all ∙ ap (λ k. drop k listing) long)
+            back ∙ sym (take-append-drop l.used l.bytes.now)
+            ∙ ap (λ xs. text_of l ++ xs) (lines.kept ∙ ap (drop l.used) all ∙ ap (λ k. drop k listing) end)
             ∙ ap (λ (r : Ran). r.listing) is;
       }

@@ -1,7 +1,8 @@
 -- The parts of the pool that a command names, and the call that it is.
-use Rattle.std.specs.Prelude.{ℕ, ◌+◌, ◌*◌, Bool, true, ◌&&◌, List, take, drop, nat_le}
+use Rattle.std.specs.Prelude.{◌≡◌, ℕ, ◌+◌, ◌*◌, Bool, true, ◌&&◌, List, take, drop, nat_le}
 use Rattle.link.specs.Calls as calls
-use Rattle.link.specs.Calls.{Call}
+use Rattle.link.specs.Calls.{Call, call_of}
+use Rattle.link.specs.declared.call.Call as made
 use Rattle.bench.specs.declared.command.Part.{Part}
 use Rattle.bench.specs.declared.command.Command.{Command}
 use Rattle.bench.specs.declared.command.Command.TheVariants.{Start, Seal, Open, Left, Close}
@@ -35,6 +36,10 @@ call pool work (Seal aad message) = calls.Seal (part_of pool aad) (part_of pool 
 call pool work (Open aad sealed_bytes) = calls.Open (part_of pool aad) (part_of pool sealed_bytes) work
 call pool work Left = calls.Left work
 call pool work Close = calls.Close work
+
+-- a call as a value is the one that a command is
+abbrev pub IsCall : (pool : List ℕ) → Command → made.Call → Type 0
+IsCall pool c m = (out : List ℕ) → call_of m out ≡ call pool out c
 
 -- the length of the message or of the sealed bytes, or 0
 abbrev pub span : Command → ℕ

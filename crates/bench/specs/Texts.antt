@@ -1,6 +1,6 @@
 -- The text of a listing.
 use Rattle.std.specs.Prelude.{ℕ, ◌+◌, ◌/◌, ◌%◌, cond, List, [], ◌∷◌, ◌++◌, take, codes, decimal, nat_lt}
-use Rattle.link.specs.Calls.{Answer, started, sealed, opened, mixings_left, closed, refused, Reply}
+use Rattle.link.specs.Calls.{Answer, started, sealed, opened, mixings_left, closed, refused, bytes_told, Reply}
 use Rattle.bench.specs.declared.command.Command.{Command}
 use Rattle.bench.specs.Commands.{opcode}
 
@@ -18,15 +18,7 @@ abbrev pub spaced : List ℕ → List ℕ
 spaced [] = []
 spaced (v ∷ vs) = codes " " ++ (decimal v ++ spaced vs)
 
--- how many bytes an answer tells; they stand at the head of the output
-abbrev pub bytes_told : Answer → ℕ
-bytes_told started = 0
-bytes_told (sealed n) = n
-bytes_told (opened n) = n
-bytes_told (mixings_left n) = 0
-bytes_told closed = 0
-bytes_told (refused number values) = 0
-
+-- the bytes that it tells
 abbrev pub shown : Reply → List ℕ
 shown r = take (bytes_told r.answer) r.output
 

@@ -1,12 +1,25 @@
 // The commands of a script.
 ghost use Rattle.std.specs.Prelude.{◌≡◌};
-ghost use Rattle.bench.specs.Commands.{opcode};
+ghost use Rattle.bench.specs.Commands.{opcode, part_at};
 
-// A part of the pool.
+// A part of the pool. It is no slice: operands name it before the pool is asked whether it has it.
 #[derive(Clone, Copy)]
 pub struct Part {
     pub place: u16,
     pub len: u16,
+}
+
+impl Part {
+    // From the operands that name it. Not `From`: the name says in which order their bytes stand.
+    pub(crate) fn from_le_bytes(bytes: [u8; 4]) -> Part
+        ensures { result ≡ part_at bytes 0 }
+    {
+        let [a, b, c, d] = bytes;
+        Part {
+            place: u16::from_le_bytes([a, b]),
+            len: u16::from_le_bytes([c, d]),
+        }
+    }
 }
 
 // Key and nonce are named by their places alone: their lengths are fixed.
@@ -20,7 +33,7 @@ pub enum Command {
 }
 
 impl Command {
-    // The byte that names it.
+    // The byte that names it; `as` gives no number where variants hold values.
     pub(crate) fn opcode(self) -> u8
         ensures { result ≡ opcode self }
     {

@@ -4,7 +4,8 @@ mod text;
 
 ghost use Rattle.std.specs.Prelude.{◌≤◌, length};
 
-// The first `used` bytes are written.
+// The first `used` bytes are written. `io::Cursor` is no plainer: its place has no bound, and its `write` tells how much
+// fitted, where here the invariant says that all does.
 #[derive(Drop)]
 pub(crate) struct Listing<'a> {
     pub(crate) bytes: &'a mut [u8],

@@ -1,58 +1,63 @@
 // The parts of the pool that a command names.
-ghost use Rattle.std.specs.Prelude.{◌≡◌, ◌+◌, ◌<◌, ◌≤◌, length};
-ghost use Rattle.bench.specs.Pools.{cut, part_of, inside, part_inside, lies, room};
+ghost use Rattle.std.specs.Prelude.{◌≡◌, true, false, length, MatchOption};
+ghost use Rattle.bench.specs.Pools.{part_of, part_inside, lies, IsCall, room};
 
 use crate::command::{Command, Part};
+use link::call::Call;
 
-// The bytes of the pool from a place on.
-pub(crate) fn slice(pool: &[u8], place: u16, len: usize) -> &[u8]
-    requires { place + len ≤ length pool.now }
-    ensures { result.now ≡ cut pool.now place len }
-{
-    let from = usize::from(place);
-    &pool[from..from + len]
-}
-
-pub(crate) fn part(pool: &[u8], part: Part) -> &[u8]
-    requires { part.place + part.len ≤ length pool.now }
-    ensures { result.now ≡ part_of pool.now part }
-{
-    slice(pool, part.place, usize::from(part.len))
-}
-
-fn slice_lies(long: usize, place: u16, len: usize) -> bool
-    requires { len < 65536 }
-    ensures { result ≡ inside long place len }
-{
-    usize::from(place) + len <= long
-}
-
-fn part_lies(long: usize, part: Part) -> bool
-    ensures { result ≡ part_inside long part }
-{
-    slice_lies(long, part.place, usize::from(part.len))
-}
-
-// Whether the parts that a command names lie in a pool of this length.
-pub(crate) fn parts_lie(long: usize, command: Command) -> bool
-    ensures { result ≡ lies long command }
-{
-    match command {
-        Command::Start { key, nonce } => slice_lies(long, key, 16) && slice_lies(long, nonce, 8),
-        Command::Seal { aad, message } => part_lies(long, aad) && part_lies(long, message),
-        Command::Open { aad, sealed } => part_lies(long, aad) && part_lies(long, sealed),
-        Command::Left | Command::Close => true,
+impl Part {
+    // Its bytes, where it lies in the pool.
+    fn of(self, pool: &[u8]) -> Option<&[u8]>
+        ensures { MatchOption result (part_inside (length pool.now) self ≡ false)
+            (λ bytes. (part_inside (length pool.now) self ≡ true) × (bytes.now ≡ part_of pool.now self)) }
+    {
+        pool.get(usize::from(self.place)..)?
+            .get(..usize::from(self.len))
     }
 }
 
-// The bytes that must be free in the listing before a command is carried out.
-pub(crate) fn room_wanted(command: Command) -> usize
-    ensures { result ≡ room command }
-{
-    let len = match command {
-        Command::Seal { message, .. } => message.len,
-        Command::Open { sealed, .. } => sealed.len,
-        Command::Start { .. } | Command::Left | Command::Close => 0,
-    };
-    64 + 2 * (usize::from(len) + 8)
+impl Command {
+    // The call that it is, with its parts of the pool lent, where they all lie in it.
+    pub(crate) fn call(self, pool: &[u8]) -> Option<Call<'_>>
+        ensures { MatchOption result (lies (length pool.now) self ≡ false)
+            (λ made. (lies (length pool.now) self ≡ true) × IsCall pool.now self made) }
+    {
+        let call = match self {
+            Command::Start { key, nonce } => Call::Start {
+                key: Part {
+                    place: key,
+                    len: 16,
+                }
+                .of(pool)?,
+                nonce: Part {
+                    place: nonce,
+                    len: 8,
+                }
+                .of(pool)?,
+            },
+            Command::Seal { aad, message } => Call::Seal {
+                aad: aad.of(pool)?,
+                message: message.of(pool)?,
+            },
+            Command::Open { aad, sealed } => Call::Open {
+                aad: aad.of(pool)?,
+                sealed: sealed.of(pool)?,
+            },
+            Command::Left => Call::Left,
+            Command::Close => Call::Close,
+        };
+        Some(call)
+    }
+
+    // The bytes that must be free in the listing before it is carried out.
+    pub(crate) fn room(self) -> usize
+        ensures { result ≡ room self }
+    {
+        let len = match self {
+            Command::Seal { message, .. } => message.len,
+            Command::Open { sealed, .. } => sealed.len,
+            Command::Start { .. } | Command::Left | Command::Close => 0,
+        };
+        64 + 2 * (usize::from(len) + 8)
+    }
 }

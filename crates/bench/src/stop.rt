@@ -1,24 +1,19 @@
-// What stops a run at a command.
+// What stops a run at a command, with the numbers that the listing tells.
 ghost use Rattle.std.specs.Prelude.{◌≡◌};
 ghost use Rattle.bench.specs.Refusals.{stop_number};
 
 #[derive(Clone, Copy)]
 pub(crate) enum Stop {
-    UnknownCommand,
-    OperandsCut,
-    OutsidePool,
-    ListingFull,
+    ListingFull = 12,
+    UnknownCommand = 13,
+    OperandsCut = 14,
+    OutsidePool = 15,
 }
 
 impl Stop {
-    pub(crate) fn number(self) -> u32
+    pub(crate) fn number(self) -> u8
         ensures { result ≡ stop_number self }
     {
-        match self {
-            Stop::ListingFull => 12,
-            Stop::UnknownCommand => 13,
-            Stop::OperandsCut => 14,
-            Stop::OutsidePool => 15,
-        }
+        self as u8
     }
 }

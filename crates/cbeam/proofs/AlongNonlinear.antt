@@ -3,7 +3,7 @@ use Rattle.std.proofs.Common.{◌≡◌, ℕ, suc, ◌+◌, ◌-◌, ◌*◌, �
 use native.Mathlib.Decide.{dec_lt}
 use lib.Bits.{bit_and, bit_xor, and_zero_r, xor_zero_r}
 use Rattle.cbeam.specs.Bits.{bit}
-use Rattle.cbeam.specs.Phi5.{phi5}
+use Rattle.cbeam.specs.Phi5.{Phi5Bits}
 use Rattle.cbeam.specs.Permutation.{nonlinear}
 use Rattle.cbeam.specs.Words.{lane}
 use Rattle.cbeam.proofs.Bitwise.{bit_below, bit-xor, bit-and, bit-shr, same_bits, and_one, shl_in}
@@ -58,7 +58,7 @@ rotated_turned n a b hn t x m j hm hj =
 -- φ5 of a word and its four rotations is the nonlinear step of each row
 pub along_nonlinear_lane : (x x1 x2 x3 x4 r : ℕ)
     → Turned 1 x x1 → Turned 2 x x2 → Turned 3 x x3 → Turned 4 x x4
-    → ((k : ℕ) → k < 64 → bit r k ≡ phi5 (bit x k) (bit x1 k) (bit x2 k) (bit x3 k) (bit x4 k))
+    → Phi5Bits 64 r x x1 x2 x3 x4
     → (m : ℕ) → m < 4 → lane r m ≡ nonlinear (lane x m)
 along_nonlinear_lane x x1 x2 x3 x4 r t1 t2 t3 t4 g m hm =
     same_bits 16 (lane r m) (nonlinear (lane x m)) (lane_below r m) (nonlinear_below (lane x m))
@@ -72,5 +72,5 @@ along_nonlinear_lane x x1 x2 x3 x4 r t1 t2 t3 t4 g m hm =
     let f2 = lane_bit x m ((j + 14) % 16) (omega arith) in
     let f3 = lane_bit x m ((j + 13) % 16) (omega arith) in
     let f4 = lane_bit x m ((j + 12) % 16) (omega arith) in
-    lane_bit r m j hj ∙ g (16 * m + j) (omega arith)
+    lane_bit r m j hj ∙ g.at (16 * m + j) (omega arith)
     ∙ (cc (e1, e2, e3, e4, f0, f1, f2, f3, f4)) ∙ sym (nonlinear_bit (lane x m) j hj))

@@ -1,11 +1,11 @@
 -- The bits of a number, and what each operation on words does to them.
-use Rattle.std.proofs.Common.{◌≡◌, ℕ, zero, suc, ◌+◌, ◌-◌, ◌*◌, ◌/◌, ◌%◌, ◌^◌, ◌<◌, ◌≤◌, sym, refl, ap, ◌∙◌, ap₂, lt_of_lt_of_le, not-suc-le-zero, mod-lt, mod-eq_of_lt, mul_assoc, add_comm, pow-suc, arith, pow_pos, pow_mono, pow-add, shr-shr}
-use native.Mathlib.Nat.{div-eq_of_lt}
+use Rattle.std.proofs.Common.{◌≡◌, ℕ, zero, suc, ◌+◌, ◌-◌, ◌*◌, ◌/◌, ◌%◌, ◌^◌, ◌<◌, ◌≤◌, sym, ap, ◌∙◌, not-suc-le-zero, mod-lt, mod-eq_of_lt, mul_assoc, add_comm, pow-suc, arith, pow-add, shr-shr}
 use native.Mathlib.Decide.{ℕ_discrete}
 use lib.Bits.{bit_and, bit_or, bit_xor, shifted_even, xor_add_and}
-use lib.Pow.{shl-shr, mod-pow-add, mod-mod-pow}
-use lib.Pow.{field, high, low, ones_split, ones_lt}
+use lib.Pow.{shl-shr, mod-mod-pow}
+use lib.Pow.{field, high, low}
 use Rattle.std.proofs.lemmas.Nat.{and_shr, or_shr, xor_shr, and_mod, or_mod, xor_mod, and_mask}
+use Rattle.std.proofs.lemmas.Nat.Bits.{bit_at_above, bit_at_ones, same_from_bits_below}
 use Rattle.cbeam.specs.Bits.{bit, word}
 
 pub bit_below : (a j : ℕ) → bit a j < 2
@@ -63,9 +63,7 @@ shl_out x n k h l = bit-mod (x * 2 ^ n) 64 k l ∙ bit-shl_low x n k h
 -- no bit stands from the width up
 pub bit_none : (a w i : ℕ) → a < 2 ^ w → w ≤ i → bit a i ≡ 0
 unfolding bit
-bit_none a w i h l =
-    let b : a < 2 ^ i = lt_of_lt_of_le h (pow_mono l) in
-    ap (λ x. x % 2) (div-eq_of_lt b)
+bit_none a w i h l = bit_at_above a w i h l
 
 pub and_one : (b : ℕ) → b < 2 → bit_and b 1 ≡ b
 and_one b h = and_mask b 1 ∙ mod-eq_of_lt h
@@ -73,14 +71,7 @@ and_one b h = and_mask b 1 ∙ mod-eq_of_lt h
 -- every bit of 2 ^ w - 1 below w is set
 bit_ones : (w j : ℕ) → j < w → bit (2 ^ w - 1) j ≡ 1
 unfolding bit
-bit_ones w j h =
-    let d : ℕ = w - suc j in
-    let e : w ≡ suc d + j = omega arith in
-    ap (λ n. bit (2 ^ n - 1) j) e
-    ∙ ap (λ n. bit n j) (ones_split (suc d) j)
-    ∙ ap (λ x. x % 2) (high (2 ^ suc d - 1) j (ones_lt j))
-    ∙ ap (λ x. (x - 1) % 2) (pow-suc 2 d)
-    ∙ (let p : 0 < 2 ^ d = pow_pos d in omega arith)
+bit_ones w j h = bit_at_ones w j h
 
 -- the complement at a width of w bits
 not_xor : (w a : ℕ) → a < 2 ^ w → (2 ^ w - 1) - a ≡ bit_xor a (2 ^ w - 1)
@@ -91,19 +82,6 @@ bit_not w a j h l =
     ap (λ n. bit n j) (not_xor w a h) ∙ bit-xor a (2 ^ w - 1) j ∙ ap (λ n. bit_xor (bit a j) n) (bit_ones w j l)
 
 -- ---- words made of bits
-
-word_cong : (n : ℕ) (f g : ℕ → ℕ) → ((j : ℕ) → j < n → f j ≡ g j) → word n f ≡ word n g
-unfolding word
-word_cong zero f g h = refl
-word_cong (suc n) f g h =
-    ap₂ (λ x y. x + y * 2 ^ n) (word_cong n f g (λ j l. h j (omega arith))) (h n (omega arith))
-
-word_bits : (n a : ℕ) → word n (bit a) ≡ a % 2 ^ n
-unfolding bit word
-word_bits zero a = omega arith
-word_bits (suc n) a =
-    ap (λ x. x + bit a n * 2 ^ n) (word_bits n a) ∙ add_comm (a % 2 ^ n) (bit a n * 2 ^ n)
-    ∙ sym (mod-pow-add a 1 n) ∙ ap (λ m. a % 2 ^ m) (omega arith)
 
 pub word_below : (n : ℕ) (f : ℕ → ℕ) → ((j : ℕ) → j < n → f j < 2) → word n f < 2 ^ n
 unfolding word
@@ -147,5 +125,5 @@ bit_word (suc n) f h j l =
 
 -- two numbers of w bits with the same bits are the same
 pub same_bits : (w a b : ℕ) → a < 2 ^ w → b < 2 ^ w → ((j : ℕ) → j < w → bit a j ≡ bit b j) → a ≡ b
-same_bits w a b ha hb h =
-    sym (mod-eq_of_lt ha) ∙ sym (word_bits w a) ∙ word_cong w (bit a) (bit b) h ∙ word_bits w b ∙ mod-eq_of_lt hb
+unfolding bit
+same_bits w a b ha hb h = same_from_bits_below w a b ha hb h

@@ -1,13 +1,13 @@
 -- A state by its bits: what each step does to the bit in row i and column j, and that equal bits make equal states.
-use Rattle.std.proofs.Common.{◌≡◌, ℕ, ◌+◌, ◌*◌, ◌/◌, ◌%◌, ◌^◌, ◌<◌, List, map, length, get_or, sym, ap, ◌∙◌, subst, zero-add, arith}
+use Rattle.std.proofs.Common.{◌≡◌, ℕ, ◌+◌, ◌*◌, ◌/◌, ◌%◌, ◌^◌, ◌<◌, List, map, length, get_or, sym, ap, ◌∙◌, subst, zero-add, arith, ext_get_or}
 use lib.Bits.{bit_xor}
 use Rattle.std.specs.List.{range_with_len}
 use Rattle.std.proofs.lemmas.List.FromFn.{length-map-range_with_len, get_or-map-range_with_len}
 use Rattle.std.proofs.lemmas.List.{get_or-map, length-map}
-use Rattle.engine.proofs.Lists.{same_list}
 use Rattle.cbeam.specs.Bits.{bit}
 use Rattle.cbeam.specs.Permutation.{constants, flipped_row, flipped, transposed_row, transposed}
 use Rattle.cbeam.specs.Permutation.{linear_at, linear, nonlinear_at, nonlinear}
+use Rattle.cbeam.specs.Orders.{row_laid}
 use Rattle.cbeam.specs.Words.{lane, laid_row, laid}
 use Rattle.cbeam.proofs.Bitwise.{bit_below, bit-xor, word_below, bit_word, same_bits}
 use Rattle.cbeam.proofs.Lanes.{lane_below, lane_bit}
@@ -25,8 +25,8 @@ pub record Rows (s : List ℕ) : Type 0 where
 pub same_rows : (s t : List ℕ) → Rows s → Rows t
     → ((i j : ℕ) → i < 16 → j < 16 → cell s i j ≡ cell t i j) → s ≡ t
 same_rows s t hs ht h =
-    same_list 16 s t hs.count ht.count
-    (λ i l. same_bits 16 (get_or s i 0) (get_or t i 0) (hs.below i l) (ht.below i l) (λ j m. h i j l m))
+    ext_get_or 0 s t (hs.count ∙ sym ht.count)
+    (λ i m. let l : i < 16 = omega arith in same_bits 16 (get_or s i 0) (get_or t i 0) (hs.below i l) (ht.below i l) (λ j m. h i j l m))
 
 -- ---- a state made row by row
 
@@ -55,8 +55,10 @@ pub mapped_twice : (g f : ℕ → ℕ) (s t : List ℕ) → length s ≡ 16 → 
     → ((k : ℕ) → k < 16 → get_or t k 0 ≡ g (f (get_or s k 0))) → t ≡ map g (map f s)
 mapped_twice g f s t hs ht h =
     let l : length (map f s) ≡ 16 = simp length-map hs in
-    same_list 16 t (map g (map f s)) ht (simp length-map hs)
-    (λ k b. h k b ∙ sym (mapped_row g (map f s) l k b ∙ ap g (mapped_row f s hs k b)))
+    ext_get_or 0 t (map g (map f s)) (ht ∙ sym (simp length-map hs))
+    (λ k m.
+    let b : k < 16 = omega arith in
+    h k b ∙ sym (mapped_row g (map f s) l k b ∙ ap g (mapped_row f s hs k b)))
 
 -- ---- transposition
 
@@ -76,10 +78,6 @@ cell_transposed s i j hi hj =
 pub rows_laid : (q : List ℕ) → Rows (laid q)
 unfolding laid
 rows_laid q = made_rows (laid_row q) (λ i. lane_below (get_or q (i / 4) 0) (i % 4))
-
-pub row_laid : (q : List ℕ) (i : ℕ) → i < 16 → get_or (laid q) i 0 ≡ laid_row q i
-unfolding laid
-row_laid q i h = made_row (laid_row q) i h
 
 pub cell_laid : (q : List ℕ) (i j : ℕ) → i < 16 → j < 16 → cell (laid q) i j ≡ bit (get_or q (i / 4) 0) (16 * (i % 4) + j)
 cell_laid q i j hi hj = ap (λ x. bit x j) (row_laid q i hi) ∙ lane_bit (get_or q (i / 4) 0) (i % 4) j hj

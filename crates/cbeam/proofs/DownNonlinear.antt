@@ -2,25 +2,25 @@
 use Rattle.std.proofs.Common.{◌≡◌, ℕ, ◌+◌, ◌-◌, ◌*◌, ◌/◌, ◌%◌, ◌^◌, ◌<◌, ◌≤◌, min, Bool, T, eqb, List, map, get_or, sym, ap, ◌∙◌, ap₂, arith, eqb→eq}
 use native.Mathlib.Decide.{dec_lt}
 use lib.Bits.{bit_xor, xor_zero_r}
-use lib.Pow.{high, low}
+use Rattle.std.proofs.lemmas.Nat.Bits.{bit_at_cat_low, bit_at_cat_high}
 use Rattle.cbeam.specs.Bits.{bit}
-use Rattle.cbeam.specs.Phi5.{phi5}
+use Rattle.cbeam.specs.Phi5.{Phi5Bits}
 use Rattle.cbeam.specs.Permutation.{transposed, nonlinear}
 use Rattle.cbeam.specs.Words.{laid, pair_bit, DownColumns}
-use Rattle.cbeam.proofs.Bitwise.{bit-xor, bit-shr, bit-mod, bit_none, shl_in, shl_out}
+use Rattle.cbeam.proofs.Bitwise.{bit-xor, bit-shr, bit_none, shl_in, shl_out}
 use Rattle.cbeam.proofs.Cells.{cell, same_rows, mapped_rows, rows_transposed, column_laid, cell_nonlinear}
 use Rattle.cbeam.proofs.Computed.{upto, at_upto}
 use Rattle.cbeam.proofs.Steps.{nonlinear_below}
 
 -- ---- one word and the word above it
 
-pair_low : (x above i : ℕ) → above < 2 ^ 64 → i < 64 → pair_bit x above i ≡ bit above i
-unfolding pair_bit
-pair_low x above i h l = sym (bit-mod (x * 2 ^ 64 + above) 64 i l) ∙ ap (λ n. bit n i) (low x 64 h)
+pair_low : (x above i : ℕ) → i < 64 → pair_bit x above i ≡ bit above i
+unfolding pair_bit bit
+pair_low x above i l = bit_at_cat_low x 64 above i l
 
 pair_high : (x above i : ℕ) → above < 2 ^ 64 → pair_bit x above (64 + i) ≡ bit x i
-unfolding pair_bit
-pair_high x above i h = sym (bit-shr (x * 2 ^ 64 + above) 64 i) ∙ ap (λ n. bit n i) (high x 64 h)
+unfolding pair_bit bit
+pair_high x above i h = bit_at_cat_high x 64 above (64 + i) h (omega arith) ∙ ap (bit x) (omega arith)
 
 -- the 64 bits that begin n bits below the top of `above`
 abbrev joined : ℕ → ℕ → ℕ → ℕ
@@ -33,7 +33,7 @@ joined_bit n x above k hn h l =
     ∙ elim (dec_lt k n) [
       | yes i ↦
           ap₂ bit_xor (shl_out x n k i l) (bit-shr above (64 - n) k)
-          ∙ sym (pair_low x above ((64 - n) + k) h (omega arith))
+          ∙ sym (pair_low x above ((64 - n) + k) (omega arith))
       | no i ↦
           let e : (64 - n) + k ≡ 64 + (k - n) = omega arith in
           let none : bit above ((64 - n) + k) ≡ 0 = bit_none above 64 ((64 - n) + k) h (omega arith) in
@@ -43,16 +43,15 @@ joined_bit n x above k hn h l =
     ]
 
 pub down_columns : (x above r : ℕ) → above < 2 ^ 64
-    → ((k : ℕ) → k < 64 → bit r k ≡
-    phi5 (bit x k) (bit (joined 16 x above) k) (bit (joined 32 x above) k) (bit (joined 48 x above) k) (bit above k))
+    → Phi5Bits 64 r x (joined 16 x above) (joined 32 x above) (joined 48 x above) above
     → DownColumns x above r
 down_columns x above r h g k l =
     let e0 = pair_high x above k h in
     let e1 = joined_bit 16 x above k (omega arith) h l in
     let e2 = joined_bit 32 x above k (omega arith) h l in
     let e3 = joined_bit 48 x above k (omega arith) h l in
-    let e4 = pair_low x above k h l in
-    g k l ∙ (cc (e0, e1, e2, e3, e4))
+    let e4 = pair_low x above k l in
+    g.at k l ∙ (cc (e0, e1, e2, e3, e4))
 
 -- ---- four words
 
@@ -88,7 +87,7 @@ column_bit q d i j hq hd hi hj =
     elim (dec_lt (j % 4) d) [
       | yes l ↦
           let e : 16 * (4 - d) + (16 * (j % 4) + i) ≡ 16 * (4 + j % 4 - d) + i = omega arith in
-          ap (pair_bit x above) e ∙ pair_low x above (16 * (4 + j % 4 - d) + i) h (omega arith)
+          ap (pair_bit x above) e ∙ pair_low x above (16 * (4 + j % 4 - d) + i) (omega arith)
           ∙ ap₂ f (sym (word_up d j 1 hd hj (omega arith))) (omega arith) ∙ sym c
       | no l ↦
           let e : 16 * (4 - d) + (16 * (j % 4) + i) ≡ 64 + (16 * (j % 4 - d) + i) = omega arith in

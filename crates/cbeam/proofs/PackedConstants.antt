@@ -4,6 +4,7 @@ use lib.Bits.{bit_xor, xor_zero_r}
 use Rattle.cbeam.specs.Bits.{bit}
 use Rattle.cbeam.specs.Permutation.{constants, flipped, transposed}
 use Rattle.cbeam.specs.Words.{laid, added, Packs}
+use Rattle.cbeam.specs.declared.planar.rounds.TheConstants.{ODD_CONSTANTS}
 use Rattle.cbeam.proofs.Bitwise.{bit-xor, bit_none}
 use Rattle.cbeam.proofs.Computed.{upto, at_upto}
 use Rattle.cbeam.proofs.Cells.{same_rows, rows_transposed, cell_transposed, rows_laid, cell_laid, cell_flipped}
@@ -52,3 +53,11 @@ packed c r t n e i j hi hj =
     ap (λ n. bit (get_or (constants n) j 0) i) e
     ∙ eqb→eq (bit (get_or (constants r) j 0) i) (bit c (16 * i + j))
     (at_upto 16 (agrees c r i) (at_upto 16 (λ i. upto 16 (agrees c r i)) t i hi) j hj)
+
+-- the table's constants are those of the odd rounds
+pub packed_odd : (k : ℕ) → k < 3 → Packs (get_or ODD_CONSTANTS k 0) (suc (2 * k))
+unfolding bit constants
+packed_odd zero h = packed _ 1 tt 1 refl
+packed_odd (suc zero) h = packed _ 3 tt (suc (2 * 1)) refl
+packed_odd (suc (suc zero)) h = packed _ 5 tt (suc (2 * 2)) refl
+packed_odd (suc (suc (suc k))) h = absurd (omega arith)

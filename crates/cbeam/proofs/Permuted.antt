@@ -1,9 +1,7 @@
 -- The permutation on the bytes of rows is the six rounds on the rows.
-use Rattle.std.proofs.Common.{◌≡◌, ℕ, ◌+◌, ◌*◌, ◌/◌, ◌%◌, ◌^◌, List, map, get_or, sym, ap, ◌∙◌, ap₂, arith}
+use Rattle.std.proofs.Common.{◌≡◌, ℕ, ◌+◌, ◌*◌, ◌/◌, ◌%◌, ◌^◌, List, map, get_or, sym, ap, ◌∙◌, ap₂, arith, refl, ext_get_or}
 use lib.Bits.{bit_xor}
 use Rattle.std.specs.List.{range_with_len}
-use Rattle.std.proofs.lemmas.List.FromFn.{length-map-range_with_len}
-use Rattle.engine.proofs.Lists.{same_list}
 use Rattle.cbeam.specs.Bits.{bit}
 use Rattle.cbeam.specs.Permutation.{constants, flipped, transposed, linear, nonlinear, round, rounds}
 use Rattle.cbeam.specs.Permutation.{row_of, rows_of, bytes_of, pi}
@@ -22,8 +20,7 @@ cut s = map (cut_row s) (range_with_len 0 16)
 rows_bytes : (s : List ℕ) → rows_of (bytes_of s) ≡ cut s
 unfolding rows_of
 rows_bytes s =
-    same_list 16 (rows_of (bytes_of s)) (cut s)
-    (length-map-range_with_len (row_of (bytes_of s)) 0 16) (length-map-range_with_len (cut_row s) 0 16)
+    ext_get_or 0 (rows_of (bytes_of s)) (cut s) refl
     (λ k l.
     let x : ℕ = get_or s k 0 in
     let f : ℕ → ℕ → ℕ = λ u p. byte_part (get_or s u 0) p in

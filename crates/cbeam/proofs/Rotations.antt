@@ -1,14 +1,17 @@
 -- The steps on one row of 16 bits, by rotations.
 use Rattle.std.proofs.Common.{◌≡◌, ℕ, ◌+◌, ◌-◌, ◌*◌, ◌/◌, ◌%◌, ◌^◌, ◌<◌, sym, ap, ◌∙◌, subst, ap₂, lt_of_le_of_lt, mod-lt, arith}
 use native.Mathlib.Decide.{dec_lt}
-use lib.Bits.{bit_and, bit_or, bit_xor, or_zero_r, or_lt, xor_lt, and_le_l}
+use lib.Bits.{bit_or, bit_xor, or_zero_r, or_lt, xor_lt}
 use lib.Pow.{shr_le}
 use Rattle.cbeam.specs.Bits.{bit}
+use Rattle.cbeam.specs.Phi5.{Phi5Bits}
 use Rattle.cbeam.specs.Permutation.{around, linear, nonlinear}
-use Rattle.cbeam.specs.Rotations.{rotated_left}
 use Rattle.cbeam.proofs.Bitwise.{bit-xor, bit-or, bit-shr, bit-mod, bit-shl_high, bit-shl_low, bit_none, same_bits}
-use Rattle.cbeam.proofs.Phi.{formula, formula_bits}
 use Rattle.cbeam.proofs.Steps.{linear_bit, linear_below, nonlinear_bit, nonlinear_below}
+
+-- x rotated by n places to the left
+abbrev rotated_left : ℕ → ℕ → ℕ
+rotated_left n x = bit_or (x * 2 ^ n % 2 ^ 16) (x / 2 ^ (16 - n))
 
 rotated_bit : (n x j : ℕ) → n < 16 → x < 2 ^ 16 → j < 16 → bit (rotated_left n x) j ≡ around x (j + (16 - n))
 rotated_bit n x j hn hx hj =
@@ -49,22 +52,13 @@ linear_rotations x a b c hx ea eb ec =
     let e12 = at_place 4 x c j (omega arith) hx hj ec in
     bit-xor (bit_xor a b) c j ∙ ap₂ bit_xor (bit-xor a b j ∙ ap₂ bit_xor e4 e8) e12 ∙ sym (linear_bit x j hj))
 
-formula_below : (x0 x1 x2 x3 x4 : ℕ) → formula 65535 x0 x1 x2 x3 x4 < 2 ^ 16
-formula_below x0 x1 x2 x3 x4 =
-    let a : ℕ = bit_and x0 (bit_xor (bit_and (65535 - x3) x4) (bit_and (65535 - x2) x3)) in
-    let b : ℕ = bit_or x1 (bit_and (65535 - x2) x3) in
-    let c : ℕ = bit_and (65535 - x3) x4 in
-    xor_lt 16 (bit_and (65535 - a) b) (bit_and (65535 - x2) c)
-    (lt_of_le_of_lt (and_le_l (65535 - a) b) (omega arith)) (lt_of_le_of_lt (and_le_l (65535 - x2) c) (omega arith))
-
-pub nonlinear_rotations : (x a b c d : ℕ) → x < 2 ^ 16
-    → Rotated 1 x a → Rotated 2 x b → Rotated 3 x c → Rotated 4 x d → formula 65535 x a b c d ≡ nonlinear x
-nonlinear_rotations x a b c d hx ea eb ec ed =
-    same_bits 16 (formula 65535 x a b c d) (nonlinear x) (formula_below x a b c d) (nonlinear_below x)
+pub nonlinear_rotations : (x a b c d r : ℕ) → x < 2 ^ 16
+    → Rotated 1 x a → Rotated 2 x b → Rotated 3 x c → Rotated 4 x d → r < 2 ^ 16 → Phi5Bits 16 r x a b c d → r ≡ nonlinear x
+nonlinear_rotations x a b c d r hx ea eb ec ed hr g =
+    same_bits 16 r (nonlinear x) hr (nonlinear_below x)
     (λ j hj.
     let e1 = at_place 1 x a j (omega arith) hx hj ea in
     let e2 = at_place 2 x b j (omega arith) hx hj eb in
     let e3 = at_place 3 x c j (omega arith) hx hj ec in
     let e4 = at_place 4 x d j (omega arith) hx hj ed in
-    formula_bits 16 x a b c d hx (below 2 x b hx eb) (below 3 x c hx ec) j hj
-    ∙ (cc (e1, e2, e3, e4)) ∙ sym (nonlinear_bit x j hj))
+    g.at j hj ∙ (cc (e1, e2, e3, e4)) ∙ sym (nonlinear_bit x j hj))

@@ -78,6 +78,13 @@ byte_of s k = slice_index s (k / 2) / 2 ^ (8 * (k % 2)) % 256
 unfoldable pub bytes_of : List ℕ → List ℕ
 bytes_of s = map (byte_of s) (range_with_len 0 32)
 
+-- The 32 bytes of words of n bytes each, where byte k is a byte of word k / n, the lowest first.
+abbrev pub byte_in : ℕ → List ℕ → ℕ → ℕ
+byte_in n s k = slice_index s (k / n) / 2 ^ (8 * (k % n)) % 256
+
+unfoldable pub bytes_in : ℕ → List ℕ → List ℕ
+bytes_in n s = map (byte_in n s) (range_with_len 0 32)
+
 -- ---- the permutation
 
 -- π on 32 bytes is six rounds.

@@ -1,5 +1,5 @@
 -- The function φ5 from five bits to one bit, by its polynomial and by its truth table.
-use Rattle.std.specs.Prelude.{◌≡◌, ℕ, ◌+◌, ◌*◌, ◌%◌, List, [], ◌∷◌, map}
+use Rattle.std.specs.Prelude.{◌≡◌, ℕ, ◌+◌, ◌*◌, ◌%◌, ◌<◌, List, [], ◌∷◌, map}
 use Rattle.std.specs.List.{range_with_len}
 use Rattle.cbeam.specs.Bits.{bit}
 
@@ -18,3 +18,7 @@ phi5_table =
 -- The polynomial has the truth table's values.
 abbrev pub Phi5Agrees : Type 0
 Phi5Agrees = map (λ n. phi5 (bit n 0) (bit n 1) (bit n 2) (bit n 3) (bit n 4)) (range_with_len 0 32) ≡ phi5_table
+
+-- r has, at each of its w bits, φ5 of that bit of five numbers.
+pub record Phi5Bits (w r x0 x1 x2 x3 x4 : ℕ) : Type 0 where
+  pub at : (j : ℕ) → j < w → bit r j ≡ phi5 (bit x0 j) (bit x1 j) (bit x2 j) (bit x3 j) (bit x4 j)

@@ -9,8 +9,6 @@ use crate::place::Place;
 pub trait Form {
     ghost bytes: { Self → List ℕ };
 
-    ghost state: { (f : Self) → State (bytes f) };
-
     // The form of 32 zero bytes.
     fn zeros() -> Self
         ensures { bytes result ≡ replicate 32 0 };
@@ -23,4 +21,6 @@ pub trait Form {
 
     fn permute(&mut self)
         ensures { bytes self.new ≡ pi (bytes self.old) };
+
+    ghost state: { (f : Self) → State (bytes f) };
 }

@@ -9,6 +9,7 @@ pub struct Place {
 }
 
 impl Place {
+    // Not `TryFrom`: both callers answer with an Option or a bool, and would throw its error away.
     pub fn of(index: usize) -> Option<Place>
         ensures { MatchOption result (32 ≤ index) (λ p. p.index ≡ index) }
     {

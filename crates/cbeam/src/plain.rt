@@ -1,42 +1,33 @@
 // The plain form: sixteen rows of 16 bits, transposed in each round.
-mod bytes;
 mod constant;
 pub mod rounds;
 pub mod row;
 mod transposition;
 
-ghost use Rattle.cbeam.specs.Permutation.{bytes_of};
+ghost use Rattle.std.specs.Prelude.{◌≡◌, refl};
+ghost use Rattle.cbeam.specs.Permutation.{bytes_of, pi};
 ghost use Rattle.cbeam.specs.States.{bytes_state};
+ghost use Rattle.cbeam.specs.Orders.{rows_in_order};
 
 use crate::budgeted::Budgeted;
-use crate::form::Form;
-use crate::place::Place;
-use bytes::{byte_of, with_byte, zero_rows};
-use rounds::permuted;
+use crate::words::{Permuted, Words};
+use constant::CONSTANTS;
+use rounds::first_rounds;
 
-pub type Plain = Budgeted<Rows>;
+pub type Plain = Budgeted<Words<u16, 16>>;
 
-#[derive(Drop)]
-pub struct Rows([u16; 16]);
+impl Permuted<16> for u16 {
+    ghost bytes = { bytes_of };
 
-impl Form for Rows {
-    ghost bytes = { λ f. bytes_of f.0 };
+    ghost state = { bytes_state };
 
-    ghost state = { λ f. bytes_state f.0 };
-
-    fn zeros() -> Rows {
-        Rows(zero_rows())
+    fn permuted(rows: [u16; 16]) -> [u16; 16]
+        ensures { bytes_of result ≡ pi (bytes_of rows) }
+    {
+        first_rounds(rows, &CONSTANTS)
     }
 
-    fn byte_at(&self, place: Place) -> u8 {
-        byte_of(&self.0, place)
-    }
+    ghost in_order = { rows_in_order };
 
-    fn put_at(&mut self, place: Place, value: u8) {
-        self.0 = with_byte(self.0, place, value);
-    }
-
-    fn permute(&mut self) {
-        self.0 = permuted(self.0);
-    }
+    ghost whole = { refl };
 }

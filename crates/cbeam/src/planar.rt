@@ -1,43 +1,32 @@
 // The transposition-free form: four words of 64 bits, each four rows.
 mod along;
-mod bytes;
 mod down;
-mod phi;
 mod rounds;
 
-ghost use Rattle.cbeam.specs.Permutation.{bytes_of};
+ghost use Rattle.std.specs.Prelude.{◌≡◌, refl};
+ghost use Rattle.cbeam.specs.Permutation.{bytes_of, pi};
 ghost use Rattle.cbeam.specs.States.{bytes_state};
+ghost use Rattle.cbeam.specs.Orders.{words_in_order};
 ghost use Rattle.cbeam.specs.Words.{laid};
 
 use crate::budgeted::Budgeted;
-use crate::form::Form;
-use crate::place::Place;
-use bytes::{byte_of, with_byte, zero_words};
-use rounds::permuted;
+use crate::words::{Permuted, Words};
+use rounds::six_rounds;
 
-pub type Planar = Budgeted<Words>;
+pub type Planar = Budgeted<Words<u64, 4>>;
 
-#[derive(Drop)]
-pub struct Words([u64; 4]);
+impl Permuted<4> for u64 {
+    ghost bytes = { λ q. bytes_of (laid q) };
 
-impl Form for Words {
-    ghost bytes = { λ f. bytes_of (laid f.0) };
+    ghost state = { λ q. bytes_state (laid q) };
 
-    ghost state = { λ f. bytes_state (laid f.0) };
-
-    fn zeros() -> Words {
-        Words(zero_words())
+    fn permuted(words: [u64; 4]) -> [u64; 4]
+        ensures { bytes_of (laid result) ≡ pi (bytes_of (laid words)) }
+    {
+        six_rounds(words)
     }
 
-    fn byte_at(&self, place: Place) -> u8 {
-        byte_of(&self.0, place)
-    }
+    ghost in_order = { words_in_order };
 
-    fn put_at(&mut self, place: Place, value: u8) {
-        self.0 = with_byte(self.0, place, value);
-    }
-
-    fn permute(&mut self) {
-        self.0 = permuted(self.0);
-    }
+    ghost whole = { refl };
 }

@@ -6,12 +6,11 @@ use Rattle.cbeam.specs.Permutation.{pi}
 use Rattle.cbeam.specs.States.{pi_state}
 use Rattle.link.specs.Sessions.{plaintext, genuine, session_begun, after_telegrams, session_state}
 use Rattle.link.specs.Calls.{Answer, opened, Reply}
-use Rattle.link.specs.Questions.{Verdict}
 use Rattle.link.specs.Steps.{reply}
 use Rattle.link.proofs.Sealings.{plain_sealing, tag_sealing, sealing_plain, length-plain}
 use Rattle.link.proofs.SessionStates.{plain_bytes}
 use Rattle.cbeam128r1.specs.Published.{encryption, decryption}
-use Rattle.cbeam128r1.specs.OneShot.{by_verdict, by_decryption, decrypt_reply}
+use Rattle.cbeam128r1.specs.OneShot.{by_decryption, decrypt_reply}
 use Rattle.cbeam128r1.specs.Exact.{Opened, Forged, Exact}
 use Rattle.cbeam128r1.proofs.Agreement.{encryption_at, decryption_at}
 
@@ -34,10 +33,7 @@ module _ (key nonce a c : List ℕ) where
 
     -- what was encrypted is decrypted to itself
     pub decrypts_back : decryption key nonce a c ≡ Some q
-    decrypts_back =
-        decryption_at key nonce a c
-        ∙ ap (λ (b : Bool). cond b (Some plain) None) is_right
-        ∙ ap (λ (p : List ℕ). Some p) is_plain
+    decrypts_back = rw (decryption_at key nonce a c, is_right, is_plain) refl
 
   encrypts_back : right ≡ true → encryption key nonce a plain ≡ c
   encrypts_back h = encryption_at key nonce a plain ∙ sealing_plain pi start a c ((bytes_eq-Decides _ _).0 h)
@@ -73,7 +69,4 @@ module _ (key nonce a c : List ℕ) where
 
       pub exact_reply : reply answer output ≡ decrypt_reply key nonce a c out → Exact key nonce a c out answer output
       exact_reply e passes =
-          let n = length c - 8 in
-          by_right right refl
-          (e ∙ ap (λ (v : Verdict). by_verdict v out (by_decryption n out (decryption key nonce a c))) passes
-          ∙ ap (by_decryption n out) (decryption_at key nonce a c))
+          by_right right refl (rw (passes, decryption_at key nonce a c) at e)

@@ -1,9 +1,11 @@
 -- What the two calls answer, and what their output holds after.
 use Rattle.std.specs.Prelude.{ℕ, ◌+◌, ◌-◌, List, [], ◌∷◌, ◌++◌, length, drop, Some, None, Option, ◌==◌, nat_le}
 use Rattle.link.specs.Blocks.{zeros}
-use Rattle.link.specs.Calls.{Reply, sealed, opened, refused}
-use Rattle.link.specs.Questions.{Question, Verdict, passed, stopped, ask, verdict}
-use Rattle.link.specs.Steps.{reply}
+use Rattle.link.specs.declared.phase.Phase.TheVariants.{Idle, Live}
+use Rattle.link.specs.Calls.{Call, Start, lent, Reply, sealed, opened, refused}
+use Rattle.link.specs.Questions.{Question, Verdict, passed, stopped, ask, verdict, questions}
+use Rattle.link.specs.Sessions.{session_begun}
+use Rattle.link.specs.Steps.{View, reply, step}
 use Rattle.cbeam128r1.specs.Published.{encryption, decryption}
 
 -- From here on a is the associated data, p the message, c the sealed bytes, and out what the output holds before.
@@ -46,3 +48,13 @@ abbrev pub decrypt_reply : (key nonce a c out : List ℕ) → Reply
 decrypt_reply key nonce a c out =
     by_verdict (verdict (decrypt_questions key nonce a c out)) out
     (by_decryption (length c - 8) out (decryption key nonce a c))
+
+-- an endpoint at which a session has just begun, over an engine that was given so many mixings
+abbrev pub begun_view : (List ℕ → List ℕ) → (given : ℕ) → (key nonce : List ℕ) → View
+begun_view mix given key nonce = record { phase = Live; bytes = session_begun mix key nonce; left = given - 3 }
+
+-- the reply to the one call c of a session, at a new endpoint over such an engine
+abbrev pub single_reply : (List ℕ → List ℕ) → (given : ℕ) → (key nonce : List ℕ) → Call → Reply
+single_reply mix given key nonce c =
+    by_verdict (verdict (questions Idle given (Start key nonce []))) (lent c)
+    (step mix (begun_view mix given key nonce) c).reply

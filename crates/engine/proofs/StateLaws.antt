@@ -1,5 +1,6 @@
 -- Bytes and states stay bytes and states.
 use Rattle.std.proofs.Common.{ℕ, zero, suc, ◌<◌, List, [], ◌∷◌, ◌++◌, take, set, replicate, refl, ◌∙◌, arith, length-set}
+use Rattle.std.proofs.lemmas.Grind.{common_steps}
 use Rattle.engine.specs.States.{State, Bytes}
 
 pub bytes_none : Bytes []
@@ -10,9 +11,7 @@ bytes_cons x xs l h zero = l
 bytes_cons x xs l h (suc k) = h k
 
 pub bytes_zeros : (n : ℕ) → Bytes (replicate n 0)
-bytes_zeros zero k = omega arith
-bytes_zeros (suc n) zero = omega arith
-bytes_zeros (suc n) (suc k) = bytes_zeros n k
+bytes_zeros n k = grind (arith, common_steps)
 
 pub bytes_set : (xs : List ℕ) (i b : ℕ) → Bytes xs → b < 256 → Bytes (set xs i b)
 bytes_set [] i b h l k = h k
@@ -22,15 +21,10 @@ bytes_set (x ∷ xs) (suc i) b h l zero = h zero
 bytes_set (x ∷ xs) (suc i) b h l (suc k) = bytes_set xs i b (λ j. h (suc j)) l k
 
 pub bytes_append : (xs ys : List ℕ) → Bytes xs → Bytes ys → Bytes (xs ++ ys)
-bytes_append [] ys h l k = l k
-bytes_append (x ∷ xs) ys h l zero = h zero
-bytes_append (x ∷ xs) ys h l (suc k) = bytes_append xs ys (λ j. h (suc j)) l k
+bytes_append xs ys h l k = grind (arith, common_steps, h, l)
 
 pub bytes_take : (n : ℕ) (xs : List ℕ) → Bytes xs → Bytes (take n xs)
-bytes_take zero xs h k = omega arith
-bytes_take (suc n) [] h k = omega arith
-bytes_take (suc n) (x ∷ xs) h zero = h zero
-bytes_take (suc n) (x ∷ xs) h (suc k) = bytes_take n xs (λ j. h (suc j)) k
+bytes_take n xs h k = let a = h k in grind (arith, common_steps)
 
 pub state_set : (xs : List ℕ) (i b : ℕ) → State xs → b < 256 → State (set xs i b)
 state_set xs i b s l = record { long = length-set xs i b ∙ s.long; small = bytes_set xs i b s.small l }

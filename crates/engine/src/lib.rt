@@ -11,20 +11,14 @@ ghost use Rattle.engine.specs.Answers.{byte_at, replaced, mixed, said, afforded}
 
 use crate::shortfall::Shortfall;
 
-// Whatever keeps these six rules is an engine. The ghost members `state`, `counted` and `keeps` ask for no rule: they
-// say only that the 32 bytes, the mixings left and the mixing function have their types.
+// Whatever keeps these six rules is an engine. The laws ask for no rule: they say only that the 32 bytes, the mixings
+// left and the mixing function have their types.
 pub trait Engine {
     ghost bytes: { Self → List ℕ };
 
     ghost budget: { Self → ℕ };
 
     ghost mixing: { List ℕ → List ℕ };
-
-    ghost state: { (e : Self) → State (bytes e) };
-
-    ghost counted: { (e : Self) → budget e < 2 ^ 32 };
-
-    ghost keeps: { Mixes mixing };
 
     // Makes all 32 bytes zero.
     fn clear(&mut self)
@@ -35,7 +29,7 @@ pub trait Engine {
     fn byte(&self, place: usize) -> Option<u8>
         ensures { result ≡ byte_at (bytes self.now) place };
 
-    // Puts a byte at a place from 0 to 31, and tells whether the place was one.
+    // Puts a byte at a place from 0 to 31, and tells whether the place was one: the rule tells yes or no, and no value.
     fn replace(&mut self, place: usize, value: u8) -> bool
         ensures told { result ≡ nat_lt place 32 }
         ensures bytes { bytes self.new ≡ replaced (bytes self.old) place value }
@@ -54,4 +48,10 @@ pub trait Engine {
         ensures told { said result ≡ afforded 1 (budget self.old) }
         ensures bytes { bytes self.new ≡ mixed mixing budget bytes self.old }
         ensures budget { budget self.new ≡ budget self.old - 1 };
+
+    ghost state: { (e : Self) → State (bytes e) };
+
+    ghost counted: { (e : Self) → budget e < 2 ^ 32 };
+
+    ghost keeps: { Mixes mixing };
 }

@@ -1,5 +1,5 @@
 -- Under a block operation a state stays a state and bytes come out; mixing functions that agree on states do the same.
-use Rattle.std.proofs.Common.{◌≡◌, ℕ, suc, ◌<◌, Bool, true, false, eqb, List, [], ◌∷◌, ◌++◌, get_or, refl, ap, ◌∙◌, arith}
+use Rattle.std.proofs.Common.{◌≡◌, ℕ, suc, ◌<◌, Bool, true, false, eqb, List, [], ◌∷◌, get_or, refl, arith}
 use lib.Bits.{bit_xor, xor_lt}
 use Rattle.engine.specs.States.{Bytes, State, Mixes, Agree}
 use Rattle.engine.proofs.StateLaws.{bytes_none, bytes_cons, bytes_append, state_set}
@@ -62,17 +62,13 @@ module _ (mix : List ℕ → List ℕ) (M : Mixes mix) (pad : ℕ) (small : pad 
     unfolding after
     after_same op [] v i h k = same _ (last_state v i h)
     after_same op (x ∷ xs) v i h k =
-        after_same op xs _ (suc (place i)) (next_state op v i x h (k 0)) (λ j. k (suc j))
-        ∙ ap (λ (w : List ℕ). after mix' op pad (treated op w (place i) x) (suc (place i)) xs)
-        (turned_same v (eqb i 8) h)
+        let rest = after_same op xs _ (suc (place i)) (next_state op v i x h (k 0)) (λ j. k (suc j)) in
+        cc (rest, turned_same v (eqb i 8) h)
 
     pub told_same :
         (op : Op) (xs v : List ℕ) (i : ℕ) → State v → Bytes xs → told mix op pad v i xs ≡ told mix' op pad v i xs
     unfolding told
     told_same op [] v i h k = refl
     told_same op (x ∷ xs) v i h k =
-        let ToldHere = λ (w : List ℕ). tells op (get_or w (place i) 0) x in
-        ap (λ (l : List ℕ). ToldHere (readied mix pad v i) ++ l)
-        (told_same op xs _ (suc (place i)) (next_state op v i x h (k 0)) (λ j. k (suc j)))
-        ∙ ap (λ (w : List ℕ). ToldHere w ++ told mix' op pad (treated op w (place i) x) (suc (place i)) xs)
-        (turned_same v (eqb i 8) h)
+        let rest = told_same op xs _ (suc (place i)) (next_state op v i x h (k 0)) (λ j. k (suc j)) in
+        cc (rest, turned_same v (eqb i 8) h)

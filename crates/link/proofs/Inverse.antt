@@ -1,6 +1,6 @@
 -- What enc tells dec takes back, and the other way round, with the same state after.
-use Rattle.std.proofs.Common.{◌≡◌, ℕ, suc, List, [], ◌∷◌, get_or, set, refl, ap, ◌∙◌, ap₂}
-use Rattle.link.specs.Blocks.{enc, dec, readied, place, told, after}
+use Rattle.std.proofs.Common.{◌≡◌, ℕ, suc, List, [], ◌∷◌, refl, ap, ap₂}
+use Rattle.link.specs.Blocks.{enc, dec, place, told, after}
 use Rattle.link.proofs.Xor.{xor_back}
 
 module _ (mix : List ℕ → List ℕ) (pad : ℕ) where
@@ -15,25 +15,13 @@ module _ (mix : List ℕ → List ℕ) (pad : ℕ) where
   after-dec-enc [] v i = refl
   after-dec-enc (x ∷ xs) v i = after-dec-enc xs _ (suc (place i))
 
-  -- the bytes xs deciphered, from the state w and the place j on
-  deciphered : List ℕ → List ℕ → ℕ → ℕ → List ℕ
-  deciphered xs w j x = told mix dec pad (set w j x) (suc j) xs
-
   pub enc-dec : (xs v : List ℕ) (i : ℕ) → told mix enc pad v i (told mix dec pad v i xs) ≡ xs
-  unfolding told deciphered
+  unfolding told
   enc-dec [] v i = refl
-  enc-dec (x ∷ xs) v i =
-      let w = readied mix pad v i in
-      let j = place i in
-      ap (λ (y : ℕ). y ∷ told mix enc pad (set w j y) (suc j) (deciphered xs w j x)) (xor_back (get_or w j 0) x)
-      ∙ ap (λ (ys : List ℕ). x ∷ ys) (enc-dec xs (set w j x) (suc j))
+  enc-dec (x ∷ xs) v i = simp xor_back (ap (λ (ys : List ℕ). x ∷ ys) (enc-dec xs _ (suc (place i))))
 
   pub after-enc-dec :
       (xs v : List ℕ) (i : ℕ) → after mix enc pad v i (told mix dec pad v i xs) ≡ after mix dec pad v i xs
-  unfolding told after deciphered
+  unfolding told after
   after-enc-dec [] v i = refl
-  after-enc-dec (x ∷ xs) v i =
-      let w = readied mix pad v i in
-      let j = place i in
-      ap (λ (y : ℕ). after mix enc pad (set w j y) (suc j) (deciphered xs w j x)) (xor_back (get_or w j 0) x)
-      ∙ after-enc-dec xs (set w j x) (suc j)
+  after-enc-dec (x ∷ xs) v i = simp xor_back (after-enc-dec xs _ (suc (place i)))

@@ -1,7 +1,5 @@
 pub mod Runs
 pub mod Lengths
-pub mod Directions
-pub mod Outputs
 pub mod Xor
 pub mod Tags
 pub mod Inverse

@@ -1,7 +1,7 @@
 -- The sealed bytes of a telegram: how long they are, that no other message has them, and which bytes are sealed ones.
-use Rattle.std.proofs.Common.{◌≡◌, ℕ, ◌+◌, ◌-◌, List, [], ◌∷◌, ◌++◌, length, take, drop, sym, refl, ap, ◌∙◌, ap₂, arith, length-append, take-append-drop}
+use Rattle.std.proofs.Common.{◌≡◌, ℕ, ◌+◌, ◌-◌, List, [], ◌∷◌, ◌++◌, length, take, drop, sym, refl, ap, ◌∙◌, arith, length-append, take-append-drop}
 use Rattle.std.proofs.lemmas.List.{take_at, drop_at, length-take-le}
-use Rattle.link.specs.Blocks.{dec, told, after}
+use Rattle.link.specs.Blocks.{dec}
 use Rattle.link.specs.Sessions.{message_pad, after_data, ciphertext, after_message, tag_of}
 use Rattle.link.specs.Sessions.{sealing_at, after_telegram, plaintext, after_plaintext}
 use Rattle.link.specs.Sessions.{Telegram, session_begun, after_telegrams, session_state}
@@ -21,32 +21,24 @@ module _ (mix : List ℕ → List ℕ) where
 
     front : take (length c - 8) c ≡ ciphertext mix v a p
     unfolding sealing_at
-    front =
-        ap (λ (k : ℕ). take k c) shorter ∙ ap (λ (l : List ℕ). take (length p) l) (sym is)
-        ∙ take_at (ciphertext mix v a p) _ (length p) (length-ciphertext mix v a p)
+    front = rw (shorter, ← is) (take_at (ciphertext mix v a p) _ (length p) (length-ciphertext mix v a p))
 
     back : drop (length c - 8) c ≡ tag_of mix (after_message mix v a p)
     unfolding sealing_at
-    back =
-        ap (λ (k : ℕ). drop k c) shorter ∙ ap (λ (l : List ℕ). drop (length p) l) (sym is)
-        ∙ drop_at (ciphertext mix v a p) _ (length p) (length-ciphertext mix v a p)
+    back = rw (shorter, ← is) (drop_at (ciphertext mix v a p) _ (length p) (length-ciphertext mix v a p))
 
     -- sealed bytes give their message
     pub plain_sealing : plaintext mix v a c ≡ p
     unfolding plaintext ciphertext
-    plain_sealing =
-        ap (λ (l : List ℕ). told mix dec message_pad (after_data mix v a) 0 l) front
-        ∙ dec-enc mix message_pad p (after_data mix v a) 0
+    plain_sealing = rw front (dec-enc mix message_pad p (after_data mix v a) 0)
 
     in_sealing : after_plaintext mix v a c ≡ after_message mix v a p
     unfolding after_plaintext ciphertext after_message
-    in_sealing =
-        ap (λ (l : List ℕ). after mix dec message_pad (after_data mix v a) 0 l) front
-        ∙ after-dec-enc mix message_pad p (after_data mix v a) 0
+    in_sealing = rw front (after-dec-enc mix message_pad p (after_data mix v a) 0)
 
     -- and their last eight are the tag
     pub tag_sealing : tag_of mix (after_plaintext mix v a c) ≡ drop (length c - 8) c
-    tag_sealing = ap (tag_of mix) in_sealing ∙ sym back
+    tag_sealing = cc (in_sealing, back)
 
   -- every other message has other sealed bytes
   pub sealing_one : (v a p q : List ℕ) → sealing_at mix v a p ≡ sealing_at mix v a q → p ≡ q
@@ -69,10 +61,8 @@ module _ (mix : List ℕ → List ℕ) where
         tag_of mix (after_plaintext mix v a c) ≡ drop (length c - 8) c → sealing_at mix v a (plaintext mix v a c) ≡ c
     unfolding sealing_at ciphertext plaintext
     sealing_plain e =
-        ap₂ (λ (x y : List ℕ). x ++ y)
-        (enc-dec mix message_pad (take (length c - 8) c) (after_data mix v a) 0)
-        (ap (tag_of mix) in_plain ∙ e)
-        ∙ take-append-drop (length c - 8) c
+        let text = take (length c - 8) c in
+        cc (enc-dec mix message_pad text (after_data mix v a) 0, in_plain, take-append-drop (length c - 8) c)
 
   after_last :
       (ts : List Telegram) (v : List ℕ) (t : Telegram) →

@@ -1,9 +1,9 @@
 -- The state of a session is a state and its messages are bytes; mixing functions that agree on states have the same
 -- sessions.
-use Rattle.std.proofs.Common.{◌≡◌, ℕ, List, [], ◌∷◌, ◌++◌, refl, ap, ◌∙◌, ap₂, arith}
+use Rattle.std.proofs.Common.{◌≡◌, ℕ, ◌<◌, List, [], ◌∷◌, ◌++◌, refl, arith}
 use Rattle.engine.specs.States.{Bytes, State, Mixes, Agree}
 use Rattle.engine.proofs.StateLaws.{bytes_take, bytes_zeros, state_zeros}
-use Rattle.link.specs.Blocks.{put, get, enc, dec, told, after, zeros}
+use Rattle.link.specs.Blocks.{Op, put, get, enc, dec, told, after, zeros}
 use Rattle.link.specs.Sessions.{key_pad, nonce_pad, data_pad, message_pad, tag_pad}
 use Rattle.link.specs.Sessions.{after_data, ciphertext, after_message, tag_of, after_tag, sealing_at, after_telegram}
 use Rattle.link.specs.Sessions.{plaintext, Telegram, session_begun, after_telegrams, session_state, sealing}
@@ -63,51 +63,53 @@ module _ (mix : List ℕ → List ℕ) (M : Mixes mix) where
       told_bytes mix M message_pad (omega arith) dec _ _ 0 (data_state _ a v k) (bytes_take _ c l)
 
   module _ (mix' : List ℕ → List ℕ) (same : Agree mix mix') where
+    -- from the same state on
+    after_alike :
+        (op : Op) (pad : ℕ) → pad < 256 → (xs : List ℕ) {v w : List ℕ} → State v → Bytes xs → v ≡ w →
+        after mix op pad v 0 xs ≡ after mix' op pad w 0 xs
+    after_alike op pad l xs h k e = cc (after_same mix M pad l mix' same op xs _ 0 h k)
+
+    told_alike :
+        (op : Op) (pad : ℕ) → pad < 256 → (xs : List ℕ) {v w : List ℕ} → State v → Bytes xs → v ≡ w →
+        told mix op pad v 0 xs ≡ told mix' op pad w 0 xs
+    told_alike op pad l xs h k e = cc (told_same mix M pad l mix' same op xs _ 0 h k)
+
     key_same :
         (key : List ℕ) → Bytes key → after mix put key_pad (zeros 32) 0 key ≡ after mix' put key_pad (zeros 32) 0 key
-    key_same key h = after_same mix M key_pad (omega arith) mix' same put key (zeros 32) 0 state_zeros h
+    key_same key h = after_alike put key_pad (omega arith) key state_zeros h refl
 
     begun_same :
         (key nonce : List ℕ) → Bytes key → Bytes nonce → session_begun mix key nonce ≡ session_begun mix' key nonce
     begun_same key nonce h k =
-        after_same mix M nonce_pad (omega arith) mix' same put nonce _ 0 (key_state key h) k
-        ∙ ap (λ (w : List ℕ). after mix' put nonce_pad w 0 nonce) (key_same key h)
+        after_alike put nonce_pad (omega arith) nonce (key_state key h) k (key_same key h)
 
     module _ (v a p : List ℕ) (hv : State v) (ha : Bytes a) (hp : Bytes p) where
       data_same : after_data mix v a ≡ after_data mix' v a
       unfolding after_data
-      data_same = after_same mix M data_pad (omega arith) mix' same put a v 0 hv ha
+      data_same = after_alike put data_pad (omega arith) a hv ha refl
 
       ciphertext_same : ciphertext mix v a p ≡ ciphertext mix' v a p
       unfolding ciphertext
-      ciphertext_same =
-          told_same mix M message_pad (omega arith) mix' same enc p _ 0 (data_state v a hv ha) hp
-          ∙ ap (λ (w : List ℕ). told mix' enc message_pad w 0 p) data_same
+      ciphertext_same = told_alike enc message_pad (omega arith) p (data_state v a hv ha) hp data_same
 
       message_same : after_message mix v a p ≡ after_message mix' v a p
       unfolding after_message
-      message_same =
-          after_same mix M message_pad (omega arith) mix' same enc p _ 0 (data_state v a hv ha) hp
-          ∙ ap (λ (w : List ℕ). after mix' enc message_pad w 0 p) data_same
+      message_same = after_alike enc message_pad (omega arith) p (data_state v a hv ha) hp data_same
 
       before_tag : State (after_message mix v a p)
       before_tag = message_state v a p hv ha hp
 
       tag_same : tag_of mix (after_message mix v a p) ≡ tag_of mix' (after_message mix' v a p)
       unfolding tag_of
-      tag_same =
-          told_same mix M tag_pad (omega arith) mix' same get (zeros 8) _ 0 before_tag (bytes_zeros 8)
-          ∙ ap (λ (w : List ℕ). told mix' get tag_pad w 0 (zeros 8)) message_same
+      tag_same = told_alike get tag_pad (omega arith) (zeros 8) before_tag (bytes_zeros 8) message_same
 
       telegram_same : after_telegram mix v a p ≡ after_telegram mix' v a p
       unfolding after_telegram after_tag
-      telegram_same =
-          after_same mix M tag_pad (omega arith) mix' same get (zeros 8) _ 0 before_tag (bytes_zeros 8)
-          ∙ ap (λ (w : List ℕ). after mix' get tag_pad w 0 (zeros 8)) message_same
+      telegram_same = after_alike get tag_pad (omega arith) (zeros 8) before_tag (bytes_zeros 8) message_same
 
       sealing_at_same : sealing_at mix v a p ≡ sealing_at mix' v a p
       unfolding sealing_at
-      sealing_at_same = ap₂ (λ (x y : List ℕ). x ++ y) ciphertext_same tag_same
+      sealing_at_same = cc (ciphertext_same, tag_same)
 
     telegrams_same :
         (ts : List Telegram) (v : List ℕ) → State v → TelegramsBytes ts →
@@ -115,16 +117,15 @@ module _ (mix : List ℕ → List ℕ) (M : Mixes mix) where
     unfolding after_telegrams
     telegrams_same [] v h k = refl
     telegrams_same (t ∷ ts) v h k =
-        telegrams_same ts _ (telegram_state v t.aad t.message h k.0 k.1) k.2
-        ∙ ap (λ (w : List ℕ). after_telegrams mix' w ts) (telegram_same v t.aad t.message h k.0 k.1)
+        let rest = telegrams_same ts _ (telegram_state v t.aad t.message h k.0 k.1) k.2 in
+        cc (rest, telegram_same v t.aad t.message h k.0 k.1)
 
     session_same :
         (key nonce : List ℕ) (ts : List Telegram) → SessionBytes key nonce ts →
         session_state mix key nonce ts ≡ session_state mix' key nonce ts
     unfolding session_state
     session_same key nonce ts b =
-        telegrams_same ts _ (begun_state key nonce b.0 b.1) b.2
-        ∙ ap (λ (w : List ℕ). after_telegrams mix' w ts) (begun_same key nonce b.0 b.1)
+        cc (telegrams_same ts _ (begun_state key nonce b.0 b.1) b.2, begun_same key nonce b.0 b.1)
 
     -- the same sealed bytes
     pub sealing_same :
@@ -132,5 +133,5 @@ module _ (mix : List ℕ → List ℕ) (M : Mixes mix) where
         sealing mix key nonce ts a p ≡ sealing mix' key nonce ts a p
     unfolding sealing
     sealing_same key nonce ts a p b ha hp =
-        sealing_at_same (session_state mix key nonce ts) a p (session_is_state key nonce ts b) ha hp
-        ∙ ap (λ (v : List ℕ). sealing_at mix' v a p) (session_same key nonce ts b)
+        let now = sealing_at_same (session_state mix key nonce ts) a p (session_is_state key nonce ts b) ha hp in
+        cc (now, session_same key nonce ts b)

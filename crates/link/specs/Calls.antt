@@ -14,8 +14,10 @@ use Rattle.link.specs.declared.refusal.Refusal.TheVariants.{
   Mixings,
   Tag,
 }
-use Rattle.link.specs.declared.event.Event.{Event}
-use Rattle.link.specs.declared.event.Event.TheVariants as event
+use Rattle.link.specs.declared.call.Call as made
+use Rattle.link.specs.declared.call.Call.TheVariants as call
+use Rattle.link.specs.declared.call.Answer as told
+use Rattle.link.specs.declared.call.Answer.TheVariants as answer
 
 -- the bytes that a call hands over; `out` is the output lent with it, which only Seal and Open write
 pub data Call : Type 0 where
@@ -72,24 +74,38 @@ number_of (mixings_left n) = 0
 number_of closed = 0
 number_of (refused number values) = number
 
+-- how many bytes an answer tells; they stand at the head of the output
+abbrev pub bytes_told : Answer → ℕ
+bytes_told started = 0
+bytes_told (sealed n) = n
+bytes_told (opened n) = n
+bytes_told (mixings_left n) = 0
+bytes_told closed = 0
+bytes_told (refused number values) = 0
+
 -- the answer that a result is, by what it says where it is not a refusal
 abbrev pub answered : {A : Type 0} → (A → Answer) → Result A Refusal → Answer
 answered said (Ok x) = said x
 answered said (Err e) = refusal e
 
--- an event with the output lent beside it, as a call
-abbrev pub call_of : Event → List ℕ → Call
-call_of (event.Start key nonce) out = Start key.now nonce.now out
-call_of (event.Seal aad message) out = Seal aad.now message.now out
-call_of (event.Open aad sealed_bytes) out = Open aad.now sealed_bytes.now out
-call_of event.Close out = Close out
+-- a call as a value, with the output lent beside it
+abbrev pub call_of : made.Call → List ℕ → Call
+call_of (call.Start key nonce) out = Start key.now nonce.now out
+call_of (call.Seal aad message) out = Seal aad.now message.now out
+call_of (call.Open aad sealed_bytes) out = Open aad.now sealed_bytes.now out
+call_of call.Left out = Left out
+call_of call.Close out = Close out
 
--- the answer to an event, by the length that the code tells
-abbrev pub answer_to : Event → Result ℕ Refusal → Answer
-answer_to (event.Start key nonce) r = answered (λ n. started) r
-answer_to (event.Seal aad message) r = answered sealed r
-answer_to (event.Open aad sealed_bytes) r = answered opened r
-answer_to event.Close r = answered (λ n. closed) r
+-- the answer to a call that is not refused, and to any call
+abbrev pub accepted : told.Answer → Answer
+accepted answer.Started = started
+accepted (answer.Sealed n) = sealed n
+accepted (answer.Opened n) = opened n
+accepted (answer.Left n) = mixings_left n
+accepted answer.Closed = closed
+
+abbrev pub answer_of : Result told.Answer Refusal → Answer
+answer_of r = answered accepted r
 
 -- an answer, and what the output holds after it
 pub record Reply : Type 0 where

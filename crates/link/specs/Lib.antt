@@ -1,5 +1,4 @@
 pub mod Blocks
-pub mod Directions
 pub mod Sessions
 pub mod Calls
 pub mod Questions

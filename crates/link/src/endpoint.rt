@@ -1,24 +1,18 @@
-// One end of a link. What each call does is the definition `step`.
+// One end of a link. What each call does is the definition `step`. A model of an endpoint would need its bound on the
+// struct, which asks more of callers; so contracts name its view by the engine's members.
 ghost use Rattle.std.specs.Prelude.{◌≡◌, ℕ, List, []};
 ghost use Rattle.link.specs.Calls.{Start, Seal, Open, Left, Close, started, sealed, opened, mixings_left, closed};
-ghost use Rattle.link.specs.Calls.{CallBytes, answered, call_of, answer_to};
+ghost use Rattle.link.specs.Calls.{CallBytes, answered, call_of, accepted, answer_of};
 ghost use Rattle.link.specs.Steps.{Did, view, fresh};
 ghost use Rattle.link.specs.declared.phase.Phase.TheVariants.{Idle, Live};
 
+use crate::call::{Answer, Call};
 use crate::cost::telegram_cost;
-use crate::event::Event;
 use crate::phase::Phase;
 use crate::refusal::Refusal;
-use crate::telegram::{open_telegram, seal_telegram, start_session};
+use crate::tag::TAG_LENGTH;
+use crate::telegram::{KEY_LENGTH, NONCE_LENGTH, open_telegram, seal_telegram, start_session};
 use engine::Engine;
-
-const KEY_LENGTH: usize = 16;
-
-const NONCE_LENGTH: usize = 8;
-
-const TAG_LENGTH: usize = 8;
-
-const LONGEST: usize = 65_535;
 
 const START_COST: u32 = 3;
 
@@ -40,44 +34,34 @@ impl<E: Engine> Endpoint<E> {
         }
     }
 
-    // Begins a session.
-    pub fn start<'x>(&mut self, key: &'x [u8], nonce: &'x [u8]) -> Result<(), Refusal>
+    // Begins a session. The named calls take what C programs hand over one by one; `Call` is the struct of it.
+    pub fn start(&mut self, key: &[u8], nonce: &[u8]) -> Result<(), Refusal>
         ensures inputs { CallBytes (Start key.now nonce.now []) }
         ensures did { Did E.mixing (view E.bytes E.budget self.old) (Start key.now nonce.now [])
             (answered (λ _. started) result) [] (view E.bytes E.budget self.new) }
     {
-        self.step(Event::Start { key, nonce }, &mut [])?;
+        self.call(Call::Start { key, nonce }, &mut [])?;
         Ok(())
     }
 
     // Writes the sealed bytes of a telegram at the head of the output, and tells their length.
-    pub fn seal<'x>(
-        &mut self,
-        aad: &'x [u8],
-        message: &'x [u8],
-        output: &mut [u8],
-    ) -> Result<usize, Refusal>
+    pub fn seal(&mut self, aad: &[u8], message: &[u8], output: &mut [u8]) -> Result<usize, Refusal>
         ensures inputs { CallBytes (Seal aad.now message.now output.old) }
         ensures did { Did E.mixing (view E.bytes E.budget self.old)
             (Seal aad.now message.now output.old)
             (answered sealed result) output.new (view E.bytes E.budget self.new) }
     {
-        self.step(Event::Seal { aad, message }, output)
+        Ok(self.call(Call::Seal { aad, message }, output)?.length())
     }
 
     // Writes the message of sealed bytes at the head of the output, and tells its length.
-    pub fn open<'x>(
-        &mut self,
-        aad: &'x [u8],
-        sealed: &'x [u8],
-        output: &mut [u8],
-    ) -> Result<usize, Refusal>
+    pub fn open(&mut self, aad: &[u8], sealed: &[u8], output: &mut [u8]) -> Result<usize, Refusal>
         ensures inputs { CallBytes (Open aad.now sealed.now output.old) }
         ensures did { Did E.mixing (view E.bytes E.budget self.old)
             (Open aad.now sealed.now output.old)
             (answered opened result) output.new (view E.bytes E.budget self.new) }
     {
-        self.step(Event::Open { aad, sealed }, output)
+        Ok(self.call(Call::Open { aad, sealed }, output)?.length())
     }
 
     // The mixings left.
@@ -93,104 +77,96 @@ impl<E: Engine> Endpoint<E> {
         ensures { Did E.mixing (view E.bytes E.budget self.old) (Close []) (answered (λ _. closed) result) []
             (view E.bytes E.budget self.new) }
     {
-        let event: Event<'static> = Event::Close;
-        self.step(event, &mut [])?;
+        self.call(Call::Close, &mut [])?;
         Ok(())
     }
 
-    // What a call does depends on the phase and the call together; tells the length written.
-    fn step(&mut self, event: Event, out: &mut [u8]) -> Result<usize, Refusal>
-        ensures { Did E.mixing (view E.bytes E.budget self.old) (call_of event.entry out.old)
-            (answer_to event.entry result) out.new (view E.bytes E.budget self.new) }
+    // Makes any call; only seal and open write the output. What it does depends on the phase and the call together, and a
+    // rule of the project wants them matched in place.
+    pub fn call(&mut self, call: Call, output: &mut [u8]) -> Result<Answer, Refusal>
+        ensures did { Did E.mixing (view E.bytes E.budget self.old) (call_of call.entry output.old)
+            (answer_of result) output.new (view E.bytes E.budget self.new) }
     {
-        match (self.phase, event) {
-            (Phase::Idle, Event::Start { key, nonce }) => self.begin(key, nonce),
-            (Phase::Idle, Event::Seal { .. }) => Err(Refusal::NotLive),
-            (Phase::Idle, Event::Open { .. }) => Err(Refusal::NotLive),
-            (Phase::Idle, Event::Close) => Err(Refusal::NotLive),
-            (Phase::Live, Event::Start { .. }) => Err(Refusal::NotIdle),
-            (Phase::Live, Event::Seal { aad, message }) => self.send(aad, message, out),
-            (Phase::Live, Event::Open { aad, sealed }) => self.receive(aad, sealed, out),
-            (Phase::Live, Event::Close) => self.finish(),
+        match (self.phase, call) {
+            (Phase::Idle, Call::Start { key, nonce }) => self.begin(key, nonce),
+            (Phase::Idle, Call::Seal { .. }) => Err(Refusal::NotLive),
+            (Phase::Idle, Call::Open { .. }) => Err(Refusal::NotLive),
+            (Phase::Idle, Call::Left) => Ok(Answer::Left(self.left())),
+            (Phase::Idle, Call::Close) => Err(Refusal::NotLive),
+            (Phase::Live, Call::Start { .. }) => Err(Refusal::NotIdle),
+            (Phase::Live, Call::Seal { aad, message }) => self.send(aad, message, output),
+            (Phase::Live, Call::Open { aad, sealed }) => self.receive(aad, sealed, output),
+            (Phase::Live, Call::Left) => Ok(Answer::Left(self.left())),
+            (Phase::Live, Call::Close) => Ok(self.finish()),
         }
     }
 }
 
-// The calls in the phase that they want: the other questions in their order, then the work.
+// The calls in the phase that they want, which the match has found: the other questions in their order, then the work.
 impl<E: Engine> Endpoint<E> {
-    fn begin(&mut self, key: &[u8], nonce: &[u8]) -> Result<usize, Refusal>
+    fn begin(&mut self, key: &[u8], nonce: &[u8]) -> Result<Answer, Refusal>
         requires { self.old.phase ≡ Idle }
         ensures { (out : List ℕ) →
             Did E.mixing (view E.bytes E.budget self.old) (Start key.now nonce.now out)
-            (answered (λ _. started) result) out (view E.bytes E.budget self.new) }
+            (answer_of result) out (view E.bytes E.budget self.new) }
     {
-        if key.len() != KEY_LENGTH {
-            return Err(Refusal::KeyLength);
-        }
-        if nonce.len() != NONCE_LENGTH {
-            return Err(Refusal::NonceLength);
-        }
+        let key = <&[u8; KEY_LENGTH]>::try_from(key).map_err(|_| Refusal::KeyLength)?;
+        let nonce = <&[u8; NONCE_LENGTH]>::try_from(nonce).map_err(|_| Refusal::NonceLength)?;
         self.engine.afford(START_COST)?;
         start_session(&mut self.engine, key, nonce);
         self.phase = Phase::Live;
-        Ok(0)
+        Ok(Answer::Started)
     }
 
-    fn send(&mut self, aad: &[u8], message: &[u8], out: &mut [u8]) -> Result<usize, Refusal>
+    fn send(&mut self, aad: &[u8], message: &[u8], out: &mut [u8]) -> Result<Answer, Refusal>
         requires { self.old.phase ≡ Live }
         ensures { Did E.mixing (view E.bytes E.budget self.old)
             (Seal aad.now message.now out.old)
-            (answered sealed result) out.new (view E.bytes E.budget self.new) }
+            (answer_of result) out.new (view E.bytes E.budget self.new) }
     {
-        let n = message.len();
-        if aad.len() > LONGEST {
-            return Err(Refusal::DataLength);
-        }
-        if n > LONGEST {
-            return Err(Refusal::MessageLength);
-        }
-        if out.len() < n + TAG_LENGTH {
+        let data_length = u16::try_from(aad.len()).map_err(|_| Refusal::DataLength)?;
+        let message_length = u16::try_from(message.len()).map_err(|_| Refusal::MessageLength)?;
+        let long = message.len() + TAG_LENGTH;
+        if out.len() < long {
             return Err(Refusal::OutputLength);
         }
-        self.engine.afford(telegram_cost(aad.len(), n))?;
-        seal_telegram(&mut self.engine, aad, message, out);
-        Ok(n + TAG_LENGTH)
+        self.engine
+            .afford(telegram_cost(data_length, message_length))?;
+        seal_telegram(&mut self.engine, aad, message, &mut out[..long]);
+        Ok(Answer::Sealed(long))
     }
 
-    fn receive(&mut self, aad: &[u8], sealed: &[u8], out: &mut [u8]) -> Result<usize, Refusal>
+    fn receive(&mut self, aad: &[u8], sealed: &[u8], out: &mut [u8]) -> Result<Answer, Refusal>
         requires { self.old.phase ≡ Live }
         ensures { Did E.mixing (view E.bytes E.budget self.old)
             (Open aad.now sealed.now out.old)
-            (answered opened result) out.new (view E.bytes E.budget self.new) }
+            (answer_of result) out.new (view E.bytes E.budget self.new) }
     {
-        if aad.len() > LONGEST {
-            return Err(Refusal::DataLength);
-        }
-        if sealed.len() > LONGEST + TAG_LENGTH {
-            return Err(Refusal::MessageLength);
-        }
-        if sealed.len() < TAG_LENGTH {
+        let data_length = u16::try_from(aad.len()).map_err(|_| Refusal::DataLength)?;
+        let message_length = u16::try_from(sealed.len().saturating_sub(TAG_LENGTH)).map_err(
+            |_| Refusal::MessageLength,
+        )?;
+        let Some((text, tag)) = sealed.split_last_chunk::<TAG_LENGTH>() else {
             return Err(Refusal::TagMissing);
-        }
-        let n = sealed.len() - TAG_LENGTH;
+        };
+        let n = text.len();
         if out.len() < n {
             return Err(Refusal::OutputLength);
         }
-        self.engine.afford(telegram_cost(aad.len(), n))?;
-        if open_telegram(&mut self.engine, aad, sealed, out) {
-            return Ok(n);
-        }
-        Err(Refusal::Tag)
+        self.engine
+            .afford(telegram_cost(data_length, message_length))?;
+        open_telegram(&mut self.engine, aad, text, tag, &mut out[..n])?;
+        Ok(Answer::Opened(n))
     }
 
-    fn finish(&mut self) -> Result<usize, Refusal>
+    fn finish(&mut self) -> Answer
         requires { self.old.phase ≡ Live }
         ensures { (out : List ℕ) →
             Did E.mixing (view E.bytes E.budget self.old) (Close out)
-            (answered (λ _. closed) result) out (view E.bytes E.budget self.new) }
+            (accepted result) out (view E.bytes E.budget self.new) }
     {
         self.engine.clear();
         self.phase = Phase::Idle;
-        Ok(0)
+        Answer::Closed
     }
 }

@@ -1,10 +1,12 @@
 // One end of a link: authenticated telegrams over any mixing engine.
 #![tactic(auto)]
 
+mod block;
 mod blocks;
+pub mod call;
 mod cost;
 pub mod endpoint;
-mod event;
+mod operation;
 pub mod phase;
 pub mod refusal;
 mod tag;

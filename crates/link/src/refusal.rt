@@ -28,7 +28,7 @@ impl From<Shortfall> for Refusal {
 }
 
 impl Refusal {
-    // Its number.
+    // Its number; `as` gives none where a case holds values.
     pub fn number(self) -> u32
         ensures value { result ≡ number_of (refusal self) }
         ensures bound { result ≤ 10 }

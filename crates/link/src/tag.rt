@@ -1,15 +1,21 @@
 // Tags are compared whole.
-ghost use Rattle.std.specs.Prelude.{◌≡◌, length};
+ghost use Rattle.std.specs.Prelude.{◌≡◌, fold, bit_or, bit_xor};
+ghost use Rattle.std.specs.List.{zip};
 ghost use Rattle.std.specs.Str.{bytes_eq};
 
+pub(crate) const TAG_LENGTH: usize = 8;
+
+// All that differs in two tags, gathered in one byte.
+fn difference(a: &[u8; TAG_LENGTH], b: &[u8; TAG_LENGTH]) -> u8
+    ensures { result ≡ fold (λ d p. bit_or d (bit_xor p.0 p.1)) 0 (zip a.now b.now) }
+{
+    a.iter().zip(b).fold(0, |d, (x, y)| d | (x ^ y))
+}
+
 // Whether two tags are the same. Every byte is compared, wherever the first difference is.
-pub(crate) fn same_tag(a: &[u8; 8], b: &[u8]) -> bool
-    requires { length b.now ≡ 8 }
+#[tactic(auto, using(crate::proofs::Tags::nothing_differs))]
+pub(crate) fn same_tag(a: &[u8; TAG_LENGTH], b: &[u8; TAG_LENGTH]) -> bool
     ensures { result ≡ bytes_eq a.now b.now }
 {
-    let mut differing = 0;
-    for k in 0..8 {
-        differing |= a[k] ^ b[k];
-    }
-    differing == 0
+    difference(a, b) == 0
 }

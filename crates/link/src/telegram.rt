@@ -1,14 +1,22 @@
-// What start, seal and open do to the state once their questions are passed.
-ghost use Rattle.std.specs.Prelude.{◌≡◌, ◌+◌, ◌-◌, ◌≤◌, cond, ◌++◌, length, drop};
+// What start, seal and open do to the state once their questions are passed. That the mixings suffice is asked by each:
+// it is a relation of an engine and two lengths, which no type of one value has.
+ghost use Rattle.std.specs.Prelude.{◌≡◌, ◌+◌, ◌-◌, ◌≤◌, cond, ◌++◌, length, Ok, Err};
 ghost use Rattle.link.specs.Blocks.{zeros};
 ghost use Rattle.link.specs.Sessions.{cost, session_begun, sealing_at, after_telegram};
-ghost use Rattle.link.specs.Sessions.{plaintext, after_plaintext, after_tag, genuine};
+ghost use Rattle.link.specs.Sessions.{plaintext, after_plaintext, tag_of, after_tag, genuine};
+ghost use Rattle.link.specs.declared.refusal.Refusal.TheVariants.{Tag};
 
-use crate::blocks::{Direction, crypt, get, put};
-use crate::tag::same_tag;
+use crate::blocks::{put, tell};
+use crate::operation::{Dec, Enc, Get};
+use crate::refusal::Refusal;
+use crate::tag::{TAG_LENGTH, same_tag};
 use crate::wipe::Wipe;
 use engine::Engine;
 use engine::whole_state::{read_state, write_state};
+
+pub(crate) const KEY_LENGTH: usize = 16;
+
+pub(crate) const NONCE_LENGTH: usize = 8;
 
 const KEY_PAD: u8 = 0x10;
 
@@ -21,10 +29,12 @@ const MESSAGE_PAD: u8 = 0x50;
 const TAG_PAD: u8 = 0x60;
 
 // Begins a session in the state.
-pub(crate) fn start_session<E: Engine>(e: &mut E, key: &[u8], nonce: &[u8])
-    requires key { length key.now ≡ 16 }
-    requires nonce { length nonce.now ≡ 8 }
-    requires budget { 3 ≤ E.budget e.old }
+pub(crate) fn start_session<E: Engine>(
+    e: &mut E,
+    key: &[u8; KEY_LENGTH],
+    nonce: &[u8; NONCE_LENGTH],
+)
+    requires { 3 ≤ E.budget e.old }
     ensures bytes { E.bytes e.new ≡ session_begun E.mixing key.now nonce.now }
     ensures budget { E.budget e.new ≡ E.budget e.old - 3 }
 {
@@ -33,76 +43,86 @@ pub(crate) fn start_session<E: Engine>(e: &mut E, key: &[u8], nonce: &[u8])
     put(e, NONCE_PAD, nonce);
 }
 
-// Adds a telegram to the session, and writes its sealed bytes at the head of `out`.
+// The tag that the state gives.
+#[tactic(auto, unfolding(crate::specs::Sessions::tag_of, crate::specs::Sessions::after_tag))]
+fn next_tag<E: Engine>(e: &mut E) -> [u8; TAG_LENGTH]
+    requires { 1 ≤ E.budget e.old }
+    ensures told { result ≡ tag_of E.mixing (E.bytes e.old) }
+    ensures bytes { E.bytes e.new ≡ after_tag E.mixing (E.bytes e.old) }
+    ensures budget { E.budget e.new ≡ E.budget e.old - 1 }
+{
+    let mut tag = [0; TAG_LENGTH];
+    tell::<Get, E>(e, TAG_PAD, &mut tag);
+    tag
+}
+
+// Adds a telegram to the session, and fills `out` with its sealed bytes.
 pub(crate) fn seal_telegram<E: Engine>(e: &mut E, aad: &[u8], message: &[u8], out: &mut [u8])
     requires budget { cost (length aad.now) (length message.now) ≤ E.budget e.old }
-    requires room { length message.now + 8 ≤ length out.old }
-    ensures bytes { E.bytes e.new
-        ≡ after_telegram E.mixing (E.bytes e.old) aad.now message.now }
-    ensures budget { E.budget e.new
-        ≡ E.budget e.old - cost (length aad.now) (length message.now) }
-    ensures out { out.new
-        ≡ sealing_at E.mixing (E.bytes e.old) aad.now message.now
-        ++ drop (length message.now + 8) out.old }
+    requires room { length out.old ≡ length message.now + 8 }
+    ensures bytes { E.bytes e.new ≡ after_telegram E.mixing (E.bytes e.old) aad.now message.now }
+    ensures budget { E.budget e.new ≡ E.budget e.old - cost (length aad.now) (length message.now) }
+    ensures out { out.new ≡ sealing_at E.mixing (E.bytes e.old) aad.now message.now }
 {
+    let (text, tag) = out.split_at_mut(message.len());
+    text.copy_from_slice(message);
     put(e, DATA_PAD, aad);
-    crypt(e, Direction::Enc, MESSAGE_PAD, message, out);
-    get(e, TAG_PAD, &mut out[message.len()..], 8);
+    tell::<Enc, E>(e, MESSAGE_PAD, text);
+    tag.copy_from_slice(&next_tag(e));
 }
 
-// Deciphers sealed bytes to the head of `out`, and tells whether their tag is the session's.
-fn decipher<E: Engine>(e: &mut E, aad: &[u8], sealed: &[u8], out: &mut [u8]) -> bool
-    requires long { 8 ≤ length sealed.now }
-    requires budget { cost (length aad.now) (length sealed.now - 8) ≤ E.budget e.old }
-    requires room { length sealed.now - 8 ≤ length out.old }
-    ensures told { result ≡ genuine E.mixing (E.bytes e.old) aad.now sealed.now }
+// Fills `out` with what enciphered bytes give, and tells whether the tag is the session's. Either way the caller has work
+// to do, so it is no `Result`.
+#[tactic(auto, unfolding(crate::specs::Sessions::plaintext, crate::specs::Sessions::after_plaintext, crate::specs::Sessions::after_data))]
+fn decipher<E: Engine>(
+    e: &mut E,
+    aad: &[u8],
+    text: &[u8],
+    tag: &[u8; TAG_LENGTH],
+    out: &mut [u8],
+) -> bool
+    requires budget { cost (length aad.now) (length text.now) ≤ E.budget e.old }
+    requires room { length out.old ≡ length text.now }
+    ensures told { result ≡ genuine E.mixing (E.bytes e.old) aad.now (text.now ++ tag.now) }
     ensures bytes { E.bytes e.new
-        ≡ after_tag E.mixing
-        (after_plaintext E.mixing (E.bytes e.old) aad.now sealed.now) }
-    ensures budget { E.budget e.new
-        ≡ E.budget e.old - cost (length aad.now) (length sealed.now - 8) }
-    ensures out { out.new
-        ≡ plaintext E.mixing (E.bytes e.old) aad.now sealed.now
-        ++ drop (length sealed.now - 8) out.old }
-    ensures behind { drop (length sealed.now - 8) out.new
-        ≡ drop (length sealed.now - 8) out.old }
+        ≡ after_tag E.mixing (after_plaintext E.mixing (E.bytes e.old) aad.now (text.now ++ tag.now)) }
+    ensures budget { E.budget e.new ≡ E.budget e.old - cost (length aad.now) (length text.now) }
+    ensures out { out.new ≡ plaintext E.mixing (E.bytes e.old) aad.now (text.now ++ tag.now) }
 {
-    let n = sealed.len() - 8;
-    let mut tag = [0; 8];
+    out.copy_from_slice(text);
     put(e, DATA_PAD, aad);
-    crypt(e, Direction::Dec, MESSAGE_PAD, &sealed[..n], out);
-    get(e, TAG_PAD, &mut tag, 8);
-    same_tag(&tag, &sealed[n..])
+    tell::<Dec, E>(e, MESSAGE_PAD, out);
+    same_tag(&next_tag(e), tag)
 }
 
-// Opens sealed bytes, and tells whether their tag is right. Where it is wrong, the 32 bytes are as they were and the
-// message's place is zeroed.
-pub(crate) fn open_telegram<E: Engine>(e: &mut E, aad: &[u8], sealed: &[u8], out: &mut [u8]) -> bool
-    requires long { 8 ≤ length sealed.now }
-    requires budget { cost (length aad.now) (length sealed.now - 8) ≤ E.budget e.old }
-    requires room { length sealed.now - 8 ≤ length out.old }
-    ensures told { result ≡ genuine E.mixing (E.bytes e.old) aad.now sealed.now }
+// Opens a telegram, and fills `out` with its message. Where the tag is wrong, the 32 bytes are as they were and `out` is
+// zeroed.
+pub(crate) fn open_telegram<E: Engine>(
+    e: &mut E,
+    aad: &[u8],
+    text: &[u8],
+    tag: &[u8; TAG_LENGTH],
+    out: &mut [u8],
+) -> Result<(), Refusal>
+    requires budget { cost (length aad.now) (length text.now) ≤ E.budget e.old }
+    requires room { length out.old ≡ length text.now }
+    ensures told { result ≡ cond (genuine E.mixing (E.bytes e.old) aad.now (text.now ++ tag.now)) (Ok tt) (Err Tag) }
     ensures bytes { E.bytes e.new
-        ≡ cond result
-        (after_tag E.mixing (after_plaintext E.mixing (E.bytes e.old) aad.now sealed.now))
+        ≡ cond (genuine E.mixing (E.bytes e.old) aad.now (text.now ++ tag.now))
+        (after_tag E.mixing (after_plaintext E.mixing (E.bytes e.old) aad.now (text.now ++ tag.now)))
         (E.bytes e.old) }
-    ensures budget { E.budget e.new
-        ≡ E.budget e.old - cost (length aad.now) (length sealed.now - 8) }
+    ensures budget { E.budget e.new ≡ E.budget e.old - cost (length aad.now) (length text.now) }
     ensures out { out.new
-        ≡ cond result
-        (plaintext E.mixing (E.bytes e.old) aad.now sealed.now)
-        (zeros (length sealed.now - 8))
-        ++ drop (length sealed.now - 8) out.old }
+        ≡ cond (genuine E.mixing (E.bytes e.old) aad.now (text.now ++ tag.now))
+        (plaintext E.mixing (E.bytes e.old) aad.now (text.now ++ tag.now))
+        (zeros (length text.now)) }
 {
     let saved = read_state(e);
-    let guard = Wipe {
-        out,
-        n: sealed.len() - 8,
-    };
-    if decipher(e, aad, sealed, guard.out) {
+    let guard = Wipe(out);
+    if decipher(e, aad, text, tag, guard.0) {
         guard.release();
-        return true;
+        return Ok(());
     }
     write_state(e, &saved);
-    false
+    Err(Refusal::Tag)
 }

@@ -54,20 +54,20 @@ fn drive_list(heap: Global) -> Result<[Exchange; 4], AllocError> {
 
 fn tool_has_sealed(rt: &impl Abort, list: &[Exchange; 3]) {
     let [start, seal, close] = list;
-    assert_eq!(rt; start.answer, Some(Answer::Started));
-    assert_eq!(rt; seal.answer, Some(Answer::Sealed(26)));
+    assert_eq!(rt; start.answer, Some(Ok(Answer::Started)));
+    assert_eq!(rt; seal.answer, Some(Ok(Answer::Sealed(26))));
     assert!(rt; seal.output.starts_with(SEALED));
     assert!(rt; seal.output.ends_with(&[7; 2]));
-    assert_eq!(rt; close.answer, Some(Answer::Closed));
+    assert_eq!(rt; close.answer, Some(Ok(Answer::Closed)));
 }
 
 fn drive_has_opened(rt: &impl Abort, list: &[Exchange; 4]) {
     let [start, forged, opened, left] = list;
-    assert_eq!(rt; start.answer, Some(Answer::Started));
-    assert_eq!(rt; forged.answer, Some(Answer::Refused(Refusal::Tag)));
-    assert_eq!(rt; opened.answer, Some(Answer::Opened(18)));
+    assert_eq!(rt; start.answer, Some(Ok(Answer::Started)));
+    assert_eq!(rt; forged.answer, Some(Err(Refusal::Tag)));
+    assert_eq!(rt; opened.answer, Some(Ok(Answer::Opened(18))));
     assert!(rt; opened.output.starts_with(MESSAGE));
-    assert_eq!(rt; left.answer, Some(Answer::Left(1)));
+    assert_eq!(rt; left.answer, Some(Ok(Answer::Left(1))));
 }
 
 #[test]

@@ -1,5 +1,6 @@
 -- The ends stay in step.
 use Rattle.std.proofs.Common.{◌≡◌, ℕ, ◌+◌, ◌-◌, ◌≤◌, List, [], ◌∷◌, ◌++◌, length, take, drop, sym, refl, ap, ◌∙◌, subst, arith}
+use Rattle.std.proofs.lemmas.Bool.{leb-true, le-leb}
 use Rattle.std.proofs.lemmas.List.{take_at}
 use Rattle.engine.specs.States.{Mixes, Agree}
 use Rattle.link.specs.declared.phase.Phase.TheVariants.{Live}
@@ -14,7 +15,7 @@ use Rattle.rehearsal.specs.Model.{Model, idle, live, asked, SealsTo, telegram}
 use Rattle.rehearsal.specs.Model.{Step, refuse, start, seal, accept, reject, tell, close, Runs, over, next}
 use Rattle.rehearsal.specs.Histories.{Session, since, next_session, session_of}
 use Rattle.rehearsal.specs.Laws.{Understands, InStep, Rehearsed}
-use Rattle.rehearsal.proofs.Verdicts.{all_yes, yes_all, leb_le, le_leb}
+use Rattle.rehearsal.proofs.Verdicts.{all_yes, yes_all}
 use Rattle.rehearsal.proofs.Single.{single}
 use Rattle.rehearsal.proofs.Simulation.{ModelBytes}
 use Rattle.rehearsal.proofs.Points.{session_more, at_call, stands_at}
@@ -75,12 +76,12 @@ module _ (mix : List ℕ → List ℕ) {left : ℕ} {key nonce : List ℕ} {ts :
       let asks = yes_all (questions Live left (Open a c out)) (
         refl,
         (
-          le_leb _ _ la,
+          le-leb _ _ la,
           (
-            le_leb _ _ (omega arith),
+            le-leb _ _ (omega arith),
             (
-              le_leb _ _ (omega arith),
-              (le_leb _ _ (omega arith), (le_leb _ _ (rw less enough), tt)),
+              le-leb _ _ (omega arith),
+              (le-leb _ _ (omega arith), (le-leb _ _ (rw less enough), tt)),
             ),
           ),
         ),
@@ -99,21 +100,19 @@ understands mix₁ mix₂ M agree ab run₁ run₂ before₁ told₁ a p out₁ 
     let s₁ = at_call mix₁ run₁ at₁ in
     let s₂ = at_call mix₂ run₂ at₂ in
     let live₁ = stands_at mix₁ s₁.runs here₁ in
-    let does₁ = subst (λ (m : Model). Step mix₁ m (Seal a p out₁) (sealed n) o s₁.m') live₁ s₁.does in
-    let steps_from₂ = λ (m : Model). Step mix₂ m (Open a (take n o) out₂) r.answer r.output s₂.m' in
-    let does₂ = subst steps_from₂ (stands_at mix₂ s₂.runs here₂) s₂.does in
+    let does₁ = rw live₁ at s₁.does in
+    let does₂ = rw (stands_at mix₂ s₂.runs here₂) at s₂.does in
     let b = bytes_before before₁ (Seal a p out₁) at₁.later (subst AllBytes at₁.calls ab) in
     let sb : SessionBytes key nonce ts = subst ModelBytes live₁ (bytes_run mix₁ s₁.runs tt b.0) in
     let did = sealed_so mix₁ does₁ n refl in
     let v = session_state mix₁ key nonce ts in
     let is : take n o ≡ sealing mix₁ key nonce ts a p =
-    ap (λ (l : List ℕ). take n l) did.holds
-    ∙ take_at (sealing_at mix₁ v a p) _ n (length-sealing mix₁ v a p ∙ sym did.tells) in
+    rw did.holds (take_at (sealing_at mix₁ v a p) _ n (length-sealing mix₁ v a p ∙ sym did.tells)) in
     let seals : SealsTo mix₂ key nonce ts a (take n o) p =
     (b.1.1, sym (is ∙ sealing_same mix₁ M mix₂ agree key nonce ts a p sb b.1.0 b.1.1)) in
     let asked₁ = all_yes (questions Live _ (Seal a p out₁)) did.passes in
     let opens : r ≡ reply (opened (length p)) (p ++ drop (length p) out₂) =
-    opens_to mix₂ a p (take n o) out₂ seals (leb_le _ _ asked₁.1.0) (leb_le _ _ asked₁.1.1.0) room
+    opens_to mix₂ a p (take n o) out₂ seals (leb-true _ _ asked₁.1.0) (leb-true _ _ asked₁.1.1.0) room
     (omega arith) r does₂ in
     let with_one : List ℕ → Session = λ q. since key nonce (ts ++ telegram a q ∷ []) in
     let again : session_of (before₂ ++ Open a (take n o) out₂ ∷ []) (told₂ ++ r ∷ []) ≡ with_one p =

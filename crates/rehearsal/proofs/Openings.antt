@@ -1,27 +1,23 @@
 -- Openings are exact.
-use Rattle.std.proofs.Common.{◌≡◌, ℕ, List, [], length, refl, subst, arith}
+use Rattle.std.proofs.Common.{◌≡◌, ℕ, List, refl}
 use Rattle.link.specs.Sessions.{Telegram}
-use Rattle.link.specs.Calls.{Call, Open, Answer, opened, refused, Reply}
+use Rattle.link.specs.Calls.{Call, Open, Answer, Reply}
 use Rattle.link.specs.Questions.{passed}
 use Rattle.link.specs.Steps.{reply}
 use Rattle.rehearsal.specs.Model.{Model, idle, live, asked, Step, refuse, accept, reject, Runs}
 use Rattle.rehearsal.specs.Laws.{OpensRight, Exact}
-use Rattle.rehearsal.proofs.Verdicts.{not_both}
 use Rattle.rehearsal.proofs.Single.{one_message}
 use Rattle.rehearsal.proofs.Points.{at_call, stands_at}
-
-not_refused : (n : ℕ) (w : Answer) → w ≡ opened n → w ≡ refused 10 [] → ⊥
-not_refused n w p q = let z : ◌≡◌ {A = ℕ} 0 1 = cc in omega arith
 
 module _ (mix : List ℕ → List ℕ) where
   opens_right :
       {left : ℕ} {key nonce : List ℕ} {ts : List Telegram} {a c out : List ℕ} {w : Answer} {o : List ℕ} {m : Model} →
       Step mix (live left key nonce ts) (Open a c out) w o m → asked (live left key nonce ts) (Open a c out) ≡ passed →
       OpensRight mix key nonce ts a c out (reply w o)
-  opens_right (refuse e) y = absurd (not_both _ y e)
+  opens_right (refuse e) y = cc
   opens_right {key = key} {nonce = nonce} {ts = ts} {a = a} {c = c} (accept p e h) y = record {
     where_none = λ never. absurd (never p h);
-    none_where = λ r. absurd (not_refused (length p) _ refl r);
+    none_where = λ r. cc;
     otherwise = λ _. (p, h, refl, λ q other k. other (one_message mix key nonce ts a c q p k h));
   }
   opens_right (reject e never) y =
@@ -31,5 +27,4 @@ module _ (mix : List ℕ → List ℕ) where
       {given : ℕ} {cs : List Call} {rs : List Reply} {m : Model} → Runs mix (idle given) cs rs m → Exact mix given cs rs
   exact {given} runs before told a c out r made key nonce ts same let_through =
       let s = at_call mix runs made in
-      let steps_from = λ (m : Model). Step mix m (Open a c out) r.answer r.output s.m' in
-      opens_right (subst steps_from (stands_at mix s.runs same) s.does) let_through
+      opens_right (rw (stands_at mix s.runs same) at s.does) let_through

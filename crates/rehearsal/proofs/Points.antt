@@ -1,22 +1,23 @@
 -- Where a call of a run was made, the model stands as the calls and replies before it say.
-use Rattle.std.proofs.Common.{◌≡◌, ℕ, ◌+◌, ◌-◌, ◌≤◌, List, [], ◌∷◌, ◌++◌, length, drop, sym, refl, ap, ◌∙◌, subst₂, arith}
+use Rattle.std.proofs.Common.{◌≡◌, ℕ, ◌+◌, ◌-◌, ◌≤◌, List, [], ◌∷◌, ◌++◌, length, drop, refl, ap, ◌∙◌, arith}
+use Rattle.std.proofs.lemmas.Bool.{leb-true}
 use Rattle.std.proofs.lemmas.List.{take_at}
 use Rattle.link.specs.Sessions.{Telegram, session_state, sealing}
 use Rattle.link.specs.Calls.{Call, Start, Seal, Open, Left, Close, Answer, Reply}
 use Rattle.link.specs.Questions.{questions, passed, price}
 use Rattle.link.proofs.Sealings.{length-sealing}
-use Rattle.rehearsal.specs.Model.{Model, idle, live, phase_of, left_of, asked, telegram}
+use Rattle.rehearsal.specs.Model.{Model, idle, live, phase_of, left_of, asked}
 use Rattle.rehearsal.specs.Model.{Step, refuse, start, seal, accept, reject, tell, close, Runs, over, next}
 use Rattle.rehearsal.specs.Histories.{Session, none, since, next_session, session_after, session_of, took, spent, Made}
-use Rattle.rehearsal.proofs.Verdicts.{all_yes, leb_le, questions_not_ten}
+use Rattle.rehearsal.proofs.Verdicts.{all_yes, questions_not_ten}
 
 -- ---- the mixings
 
 pays : (m : Model) (c : Call) → asked m c ≡ passed → price c ≤ left_of m
 pays m (Start key nonce out) e =
-    leb_le _ _ (all_yes (questions (phase_of m) (left_of m) (Start key nonce out)) e).1.1.1.0
-pays m (Seal a p out) e = leb_le _ _ (all_yes (questions (phase_of m) (left_of m) (Seal a p out)) e).1.1.1.1.0
-pays m (Open a c out) e = leb_le _ _ (all_yes (questions (phase_of m) (left_of m) (Open a c out)) e).1.1.1.1.1.0
+    leb-true _ _ (all_yes (questions (phase_of m) (left_of m) (Start key nonce out)) e).1.1.1.0
+pays m (Seal a p out) e = leb-true _ _ (all_yes (questions (phase_of m) (left_of m) (Seal a p out)) e).1.1.1.1.0
+pays m (Open a c out) e = leb-true _ _ (all_yes (questions (phase_of m) (left_of m) (Open a c out)) e).1.1.1.1.1.0
 pays m (Left out) e = omega arith
 pays m (Close out) e = omega arith
 
@@ -77,7 +78,7 @@ pub session_more :
     {s : Session} → session_of before told ≡ s →
     session_of (before ++ c ∷ []) (told ++ r ∷ []) ≡ next_session s c r.answer r.output
 session_more before told even c r e =
-    after_more before told even c r none ∙ ap (λ (s : Session). next_session s c r.answer r.output) e
+    rw (after_more before told even c r none, e) refl
 
 module _ (mix : List ℕ → List ℕ) where
   session_step :
@@ -87,8 +88,7 @@ module _ (mix : List ℕ → List ℕ) where
   session_step (start e) = refl
   session_step (seal e) = refl
   session_step (accept {key = key} {nonce = nonce} {ts = ts} {a = a} {out = out} p e h) =
-      ap (λ (q : List ℕ). since key nonce (ts ++ telegram a q ∷ []))
-      (sym (take_at p (drop (length p) out) (length p) refl))
+      rw (take_at p (drop (length p) out) (length p) refl) refl
   session_step (reject e never) = refl
   session_step tell = refl
   session_step close = refl
@@ -127,7 +127,7 @@ module _ (mix : List ℕ → List ℕ) where
       Stepped (idle given) before told c r
   at_call {given} {m'' = m''} runs {before} {told} {c} {r} made =
       stepped before told made.as_many c made.later r made.rest
-      (subst₂ (λ (l : List Call) (k : List Reply). Runs mix (idle given) l k m'') made.calls made.replies runs)
+      (rw (made.calls, made.replies) at runs)
 
   -- where a session is live after the calls before, the model is live with it and has the mixings that were not spent
   pub stands_at :

@@ -1,5 +1,5 @@
 -- Every answer and output is the model's.
-use Rattle.std.proofs.Common.{◌≡◌, ℕ, List, sym, ap, ◌∙◌, subst₂}
+use Rattle.std.proofs.Common.{◌≡◌, ℕ, List}
 use Rattle.engine.specs.States.{Mixes}
 use Rattle.link.specs.Calls.{Call, Reply}
 use Rattle.link.specs.Steps.{View, fresh}
@@ -28,6 +28,4 @@ module _ (mix : List ℕ → List ℕ) (M : Mixes mix) where
       (bytes : List ℕ) (given : ℕ) (cs : List Call) → AllBytes cs → (e : View) (rs : List Reply) (e' : View) →
       e ≡ fresh bytes given → rs ≡ replies mix e cs → e' ≡ view_after mix e cs → Modelled mix given cs rs e'
   modelled bytes given cs b e rs e' new told shows =
-      subst₂ (Modelled mix given cs)
-      (sym (told ∙ ap (λ (v : View). replies mix v cs) new)) (sym (shows ∙ ap (λ (v : View). view_after mix v cs) new))
-      (all_modelled bytes given cs b)
+      rw (told, shows, new) (all_modelled bytes given cs b)

@@ -1,12 +1,12 @@
 -- An endpoint does what the model says, call by call, for every list of calls.
-use Rattle.std.proofs.Common.{◌≡◌, ℕ, ◌-◌, Bool, true, false, List, [], ◌∷◌, ◌++◌, length, drop, sym, refl, ap, ◌∙◌, subst}
+use Rattle.std.proofs.Common.{◌≡◌, ℕ, ◌-◌, Bool, true, false, List, [], ◌∷◌, ◌++◌, length, sym, refl, ap, ◌∙◌, true≢false}
 use Rattle.std.proofs.lemmas.Slice.Eq.{bytes_eq-Decides}
 use Rattle.engine.specs.States.{Bytes, Mixes}
 use Rattle.link.specs.declared.phase.Phase.TheVariants.{Live}
 use Rattle.link.specs.Blocks.{zeros}
 use Rattle.link.specs.Sessions.{cost, Telegram, session_begun, after_telegrams, session_state, sealing}
 use Rattle.link.specs.Sessions.{after_telegram, plaintext, after_tag, genuine}
-use Rattle.link.specs.Calls.{Call, Start, Seal, Open, Left, Close, CallBytes, opened}
+use Rattle.link.specs.Calls.{Call, Start, Seal, Open, Left, Close, CallBytes}
 use Rattle.link.specs.Questions.{Verdict, passed, stopped}
 use Rattle.link.specs.Steps.{View, Outcome, opening, done, settled, step}
 use Rattle.link.proofs.Sealings.{length-plain, sealing_plain, tag_sealing, in_plain, session_more}
@@ -14,7 +14,6 @@ use Rattle.link.proofs.SessionStates.{SessionBytes, telegrams_more, plain_bytes}
 use Rattle.rehearsal.specs.Turns.{AllBytes, replies, view_after}
 use Rattle.rehearsal.specs.Model.{Model, idle, live, asked, telegram, shown}
 use Rattle.rehearsal.specs.Model.{Step, refuse, start, seal, accept, reject, tell, close, Runs, over, next}
-use Rattle.rehearsal.proofs.Verdicts.{not_both, true_is_false}
 
 -- the session's key, nonce and telegrams are bytes
 abbrev pub ModelBytes : Model → Type 0
@@ -56,10 +55,7 @@ module _ (mix : List ℕ → List ℕ) (M : Mixes mix) where
         record {
           model = after (length c - 8);
           rest = bs;
-          does = subst
-              (λ (n : ℕ). Step mix (live left key nonce ts) (Open a c out) (opened n) (p ++ drop n out) (after n))
-              (length-plain mix v a c)
-              (accept p e (pb, sealing_plain mix v a c ((bytes_eq-Decides _ _).0 h)));
+          does = rw (← length-plain mix v a c) (accept p e (pb, sealing_plain mix v a c ((bytes_eq-Decides _ _).0 h)));
           stands = stands_live (left - cost (length a) (length c - 8))
               (ap (after_tag mix) (sym (in_plain mix v a c)) ∙ sym (session_more mix key nonce ts (telegram a p)));
           bytes = (mb.0, mb.1, telegrams_more ts (telegram a p) mb.2 cb.0 pb);
@@ -67,7 +63,7 @@ module _ (mix : List ℕ → List ℕ) (M : Mixes mix) where
     opens e mb cb false h = record {
       model = live (left - cost (length a) (length c - 8)) key nonce ts;
       rest = bs;
-      does = reject e (λ p hb. true_is_false _ ((bytes_eq-Decides _ _).1 (tag_sealing mix _ a p c hb.1)) h);
+      does = reject e (λ p hb. true≢false (sym ((bytes_eq-Decides _ _).1 (tag_sealing mix _ a p c hb.1)) ∙ h));
       stands = refl;
       bytes = mb;
     }
@@ -83,12 +79,12 @@ module _ (mix : List ℕ → List ℕ) (M : Mixes mix) where
     stands = stands_live (left - 3) (begins key nonce);
     bytes = (cb.0, cb.1, tt);
   }
-  does_done (idle left) bs (Seal a p out) e mb cb = absurd (not_both _ e refl)
-  does_done (idle left) bs (Open a c out) e mb cb = absurd (not_both _ e refl)
+  does_done (idle left) bs (Seal a p out) e mb cb = cc
+  does_done (idle left) bs (Open a c out) e mb cb = cc
   does_done (idle left) bs (Left out) e mb cb =
       record { model = idle left; rest = bs; does = tell; stands = refl; bytes = mb }
-  does_done (idle left) bs (Close out) e mb cb = absurd (not_both _ e refl)
-  does_done (live left key nonce ts) bs (Start k n out) e mb cb = absurd (not_both _ e refl)
+  does_done (idle left) bs (Close out) e mb cb = cc
+  does_done (live left key nonce ts) bs (Start k n out) e mb cb = cc
   does_done (live left key nonce ts) bs (Seal a p out) e mb cb = record {
     model = live (left - cost (length a) (length p)) key nonce (ts ++ telegram a p ∷ []);
     rest = bs;
@@ -128,7 +124,5 @@ module _ (mix : List ℕ → List ℕ) (M : Mixes mix) where
   does_all (c ∷ cs) m bs mb ab =
       let one = does_step m bs c mb ab.0 in
       let e = (step mix (shown mix m bs) c).view in
-      let more : AllInModel one.model e cs =
-      subst (λ (e : View). AllInModel one.model e cs) (sym one.stands)
-      (does_all cs one.model one.rest one.bytes ab.1) in
+      let more : AllInModel one.model e cs = rw one.stands (does_all cs one.model one.rest one.bytes ab.1) in
       record { model = more.model; rest = more.rest; runs = next one.does more.runs; stands = more.stands }

@@ -1,11 +1,10 @@
 -- The model leaves nothing to choose.
-use Rattle.std.proofs.Common.{◌≡◌, ℕ, ◌-◌, List, [], ◌∷◌, ◌++◌, length, drop, sym, refl, ◌∙◌, subst}
+use Rattle.std.proofs.Common.{◌≡◌, ℕ, ◌-◌, List, [], ◌∷◌, ◌++◌, length, drop, sym, refl, ◌∙◌}
 use Rattle.link.specs.Sessions.{cost, Telegram, session_state, sealing}
-use Rattle.link.specs.Calls.{Call, Answer, opened, refused, Reply}
+use Rattle.link.specs.Calls.{Call, Answer, opened, Reply}
 use Rattle.link.proofs.Sealings.{sealing_one}
 use Rattle.rehearsal.specs.Model.{Model, live, SealsTo, telegram}
 use Rattle.rehearsal.specs.Model.{Step, refuse, start, seal, accept, reject, tell, close, Runs, over, next}
-use Rattle.rehearsal.proofs.Verdicts.{number, values, not_both}
 
 abbrev Same : Answer → List ℕ → Model → Answer → List ℕ → Model → Type 0
 Same a o m a' o' m' = (a ≡ a') × (o ≡ o') × (m ≡ m')
@@ -21,18 +20,18 @@ module _ (mix : List ℕ → List ℕ) where
   pub single :
       {m : Model} {c : Call} {w : Answer} {o : List ℕ} {n : Model} → Step mix m c w o n →
       {w' : Answer} {o' : List ℕ} {n' : Model} → Step mix m c w' o' n' → Same w o n w' o' n'
-  single (refuse e) (refuse e') = let s = sym e ∙ e' in ((λ i. refused (number (s i)) (values (s i))), refl, refl)
-  single (refuse e) (start e') = absurd (not_both _ e' e)
-  single (refuse e) (seal e') = absurd (not_both _ e' e)
-  single (refuse e) (accept p e' h) = absurd (not_both _ e' e)
-  single (refuse e) (reject e' h) = absurd (not_both _ e' e)
-  single (refuse e) tell = absurd (not_both _ refl e)
-  single (refuse e) close = absurd (not_both _ refl e)
-  single (start e) (refuse e') = absurd (not_both _ e e')
+  single (refuse e) (refuse e') = (cc, refl, refl)
+  single (refuse e) (start e') = cc
+  single (refuse e) (seal e') = cc
+  single (refuse e) (accept p e' h) = cc
+  single (refuse e) (reject e' h) = cc
+  single (refuse e) tell = cc
+  single (refuse e) close = cc
+  single (start e) (refuse e') = cc
   single (start e) (start e') = (refl, refl, refl)
-  single (seal e) (refuse e') = absurd (not_both _ e e')
+  single (seal e) (refuse e') = cc
   single (seal e) (seal e') = (refl, refl, refl)
-  single (accept p e h) (refuse e') = absurd (not_both _ e e')
+  single (accept p e h) (refuse e') = cc
   single (accept {left = l} {key = key} {nonce = nonce} {ts = ts} {a = a} {c = c} {out = out} p e h) (accept q e' k) =
       let s = one_message key nonce ts a c p q h k in (
         (λ i. opened (length (s i))),
@@ -40,12 +39,12 @@ module _ (mix : List ℕ → List ℕ) where
         λ i. live (l - cost (length a) (length (s i))) key nonce (ts ++ telegram a (s i) ∷ []),
       )
   single (accept p e h) (reject e' k) = absurd (k p h)
-  single (reject e k) (refuse e') = absurd (not_both _ e e')
+  single (reject e k) (refuse e') = cc
   single (reject e k) (accept p e' h) = absurd (k p h)
   single (reject e k) (reject e' k') = (refl, refl, refl)
-  single tell (refuse e') = absurd (not_both _ refl e')
+  single tell (refuse e') = cc
   single tell tell = (refl, refl, refl)
-  single close (refuse e') = absurd (not_both _ refl e')
+  single close (refuse e') = cc
   single close close = (refl, refl, refl)
 
   pub single_run :
@@ -54,5 +53,5 @@ module _ (mix : List ℕ → List ℕ) where
   single_run over over = (refl, refl)
   single_run (next {cs = cs} s t) (next {m'' = z} {rs = rs'} s' t') =
       let h = single s s' in
-      let k = single_run t (subst (λ (x : Model). Runs mix x cs rs' z) (sym h.2) t') in
+      let k = single_run t (rw (← h.2) at t') in
       ((λ i. record { answer = h.0 i; output = h.1 i } ∷ k.0 i), k.1)

@@ -1,9 +1,10 @@
 -- What one turn of a run keeps.
-use Rattle.std.proofs.Common.{◌≡◌, ℕ, ◌+◌, ◌<◌, ◌≤◌, List, [], ◌∷◌, ◌++◌, length, get_or, take, drop, set, Some, vec_items, sym, refl, ap, ◌∙◌, subst, ap₂, append_assoc, append-nil, arith}
+use Rattle.std.proofs.Common.{◌≡◌, ℕ, ◌+◌, ◌<◌, ◌≤◌, List, [], ◌∷◌, ◌++◌, length, get_or, take, drop, set, Some, Result, vec_items, refl, ap, ◌∙◌, append_assoc, append-nil, arith}
 use Rattle.std.proofs.lemmas.List.{drop_more, drop_all, drop-set-lt, take_all, take_more, take_more_set, map_push}
-use Rattle.link.specs.Calls.{CallBytes, Reply}
+use Rattle.link.specs.Calls.{CallBytes}
 use Rattle.link.specs.Steps.{View, reply, step, Did}
-use Rattle.rehearsal.specs.declared.exchange.Answer.{Answer}
+use Rattle.link.specs.declared.refusal.Refusal.{Refusal}
+use Rattle.link.specs.declared.call.Answer.{Answer}
 use Rattle.rehearsal.specs.declared.exchange.Exchange.{Exchange}
 use Rattle.rehearsal.specs.Exchanges.{answer_of, call_of, told_by, request_of, calls_of, replies_of, requests_of}
 use Rattle.rehearsal.specs.Turns.{AllBytes, replies, view_after}
@@ -29,20 +30,18 @@ bytes_more (y ∷ xs) x h b = (h.0, bytes_more xs x h.1 b)
 
 -- an exchange that has been made has its reply behind those before it
 replies_more :
-    (xs : List Exchange) (x : Exchange) (a : Answer) → x.answer ≡ Some a →
+    (xs : List Exchange) (x : Exchange) (a : Result Answer Refusal) → x.answer ≡ Some a →
     replies_of (xs ++ x ∷ []) ≡ replies_of xs ++ reply (answer_of a) (vec_items x.output) ∷ []
 unfolding replies_of
 replies_more [] x a e = ap (λ t. told_by t (vec_items x.output) ++ []) e
-replies_more (y ∷ xs) x a e =
-    ap (λ (l : List Reply). told_by y.answer (vec_items y.output) ++ l) (replies_more xs x a e)
-    ∙ sym (append_assoc (told_by y.answer (vec_items y.output)) (replies_of xs) _)
+replies_more (y ∷ xs) x a e = rw (replies_more xs x a e, append_assoc) refl
 
 module _
     {mix : List ℕ → List ℕ} {v₀ : View} {xs₀ : List Exchange} {v : View} {xs : List Exchange} {k : ℕ}
     (s : Sofar mix v₀ xs₀ v xs k) where
   -- one exchange more
   pub sofar_more :
-      k < length xs → k < length xs₀ → (z x' : Exchange) (a : Answer) (v' : View) →
+      k < length xs → k < length xs₀ → (z x' : Exchange) (a : Result Answer Refusal) (v' : View) →
       x'.request ≡ (get_or xs k z).request → x'.answer ≡ Some a → CallBytes (call_of (get_or xs k z)) →
       Did mix v (call_of (get_or xs k z)) (answer_of a) (vec_items x'.output) v' →
       Sofar mix v₀ xs₀ v' (set xs k x') (k + 1)
@@ -64,37 +63,33 @@ module _
       record {
         rest = drop-set-lt (k + 1) xs k x' (omega arith) ∙ later;
         requests =
-            ap requests_of took ∙ map_push request_of (take k xs) x' ∙ (λ i. s.requests i ++ same i ∷ [])
-            ∙ sym (map_push request_of (take k xs₀) x) ∙ sym (ap requests_of took₀);
+            let e₁ = map_push request_of (take k xs) x' in
+            let e₂ = map_push request_of (take k xs₀) x in
+            let e₃ = s.requests in cc;
         inputs =
-            subst (λ (l : List Exchange). AllBytes (calls_of l)) (sym took₀) (bytes_more (take k xs₀) x s.inputs b);
+            rw took₀ (bytes_more (take k xs₀) x s.inputs b);
         told =
-            ap (λ (l : List Exchange). replies_of l ++ R) took
-            ∙ ap (λ (l : List Reply). l ++ R) (replies_more (take k xs) x' a made)
-            ∙ append_assoc (replies_of (take k xs)) (new ∷ []) R
-            ∙ ap₂ (λ (y : Reply) (w : View). replies_of (take k xs) ++ y ∷ replies mix w (calls_of (drop (k + 1) xs₀)))
-            is d.shows
-            ∙ sym (ap (λ (l : List Exchange). replies_of (take k xs) ++ replies mix v (calls_of l)) first) ∙ s.told;
+            let e₁ = replies_more (take k xs) x' a made in
+            let e₂ = append_assoc (replies_of (take k xs)) (new ∷ []) R in
+            let e₃ = d.shows in
+            let e₄ = rw first at s.told in cc;
         shows =
-            ap (λ (w : View). view_after mix w (calls_of (drop (k + 1) xs₀))) d.shows
-            ∙ sym (ap (λ (l : List Exchange). view_after mix v (calls_of l)) first) ∙ s.shows;
+            let e₁ = d.shows in
+            let e₂ = rw first at s.shows in cc;
       }
 
   -- every exchange has been made
   module _ (h : length xs ≤ k) (h₀ : length xs₀ ≤ k) where
     pub all_requests : requests_of xs ≡ requests_of xs₀
-    all_requests = sym (ap requests_of (take_all k xs h)) ∙ s.requests ∙ ap requests_of (take_all k xs₀ h₀)
+    all_requests = cc (take_all k xs h, take_all k xs₀ h₀, s.requests)
 
     pub all_inputs : AllBytes (calls_of xs₀)
-    all_inputs = subst (λ (l : List Exchange). AllBytes (calls_of l)) (take_all k xs₀ h₀) s.inputs
+    all_inputs = rw (take_all k xs₀ h₀) at s.inputs
 
     pub all_told : replies_of xs ≡ replies mix v₀ (calls_of xs₀)
     unfolding replies
-    all_told =
-        sym (ap replies_of (take_all k xs h)) ∙ sym (append-nil (replies_of (take k xs)))
-        ∙ sym (ap (λ (l : List Exchange). replies_of (take k xs) ++ replies mix v (calls_of l)) (drop_all k xs₀ h₀))
-        ∙ s.told
+    all_told = rw (drop_all k xs₀ h₀, append-nil, take_all k xs h) at s.told
 
     pub all_shows : v ≡ view_after mix v₀ (calls_of xs₀)
     unfolding view_after
-    all_shows = sym (ap (λ (l : List Exchange). view_after mix v (calls_of l)) (drop_all k xs₀ h₀)) ∙ s.shows
+    all_shows = rw (drop_all k xs₀ h₀) at s.shows

@@ -1,21 +1,14 @@
 -- What requests and answers say, in the words of an endpoint's calls.
-use Rattle.std.specs.Prelude.{ℕ, List, [], ◌∷◌, ◌++◌, map, Some, None, vec_items, Option}
+use Rattle.std.specs.Prelude.{ℕ, List, [], ◌∷◌, ◌++◌, map, Some, None, vec_items, Option, Result}
 use Rattle.link.specs.Calls as calls
-use Rattle.link.specs.Calls.{Call, Reply, refusal}
+pub use Rattle.link.specs.Calls.{answer_of}
+use Rattle.link.specs.Calls.{Call, Reply}
+use Rattle.link.specs.declared.call.Answer.{Answer}
+use Rattle.link.specs.declared.refusal.Refusal.{Refusal}
 use Rattle.link.specs.Steps.{reply}
 use Rattle.rehearsal.specs.declared.exchange.Request.{Request}
 use Rattle.rehearsal.specs.declared.exchange.Request.TheVariants as request
-use Rattle.rehearsal.specs.declared.exchange.Answer.{Answer}
-use Rattle.rehearsal.specs.declared.exchange.Answer.TheVariants.{Started, Sealed, Opened, Left, Closed, Refused}
 use Rattle.rehearsal.specs.declared.exchange.Exchange.{Exchange}
-
-abbrev pub answer_of : Answer → calls.Answer
-answer_of Started = calls.started
-answer_of (Sealed n) = calls.sealed n
-answer_of (Opened n) = calls.opened n
-answer_of (Left n) = calls.mixings_left n
-answer_of Closed = calls.closed
-answer_of (Refused e) = refusal e
 
 -- a request as a call, with the output lent to it
 abbrev pub as_call : Request → List ℕ → Call
@@ -32,7 +25,7 @@ abbrev pub calls_of : List Exchange → List Call
 calls_of xs = map call_of xs
 
 -- the answers given so far, each with its output
-abbrev pub told_by : Option Answer → List ℕ → List Reply
+abbrev pub told_by : Option (Result Answer Refusal) → List ℕ → List Reply
 told_by None out = []
 told_by (Some a) out = reply (answer_of a) out ∷ []
 

@@ -1,39 +1,26 @@
 // A list of exchanges, made at one endpoint.
 ghost use Rattle.std.specs.Prelude.{◌≡◌};
-ghost use Rattle.link.specs.Calls.{CallBytes};
+ghost use Rattle.link.specs.Calls.{CallBytes, answer_of};
 ghost use Rattle.link.specs.Steps.{Did, view};
-ghost use Rattle.rehearsal.specs.Exchanges.{answer_of, as_call, calls_of, replies_of, requests_of};
+ghost use Rattle.rehearsal.specs.Exchanges.{as_call, calls_of, replies_of, requests_of};
 ghost use Rattle.rehearsal.specs.Turns.{AllBytes, replies, view_after};
 
 use crate::exchange::{Answer, Exchange, Request};
 use engine::Engine;
 use link::endpoint::Endpoint;
+use link::refusal::Refusal;
 
 // Makes one request at the endpoint.
-fn perform<E: Engine>(endpoint: &mut Endpoint<E>, request: &Request, output: &mut [u8]) -> Answer
+fn perform<E: Engine>(
+    endpoint: &mut Endpoint<E>,
+    request: &Request,
+    output: &mut [u8],
+) -> Result<Answer, Refusal>
     ensures inputs { CallBytes (as_call request.now output.old) }
     ensures did { Did E.mixing (view E.bytes E.budget endpoint.old) (as_call request.now output.old)
         (answer_of result) output.new (view E.bytes E.budget endpoint.new) }
 {
-    match request {
-        Request::Start { key, nonce } => match endpoint.start(key, nonce) {
-            Ok(()) => Answer::Started,
-            Err(e) => Answer::Refused(e),
-        },
-        Request::Seal { aad, message } => match endpoint.seal(aad, message, output) {
-            Ok(n) => Answer::Sealed(n),
-            Err(e) => Answer::Refused(e),
-        },
-        Request::Open { aad, sealed } => match endpoint.open(aad, sealed, output) {
-            Ok(n) => Answer::Opened(n),
-            Err(e) => Answer::Refused(e),
-        },
-        Request::Left => Answer::Left(endpoint.left()),
-        Request::Close => match endpoint.close() {
-            Ok(()) => Answer::Closed,
-            Err(e) => Answer::Refused(e),
-        },
-    }
+    endpoint.call(request.call(), output)
 }
 
 // Makes every exchange in turn.

@@ -1,9 +1,12 @@
 // What lines are made of: words, hexadecimal bytes, decimal numbers.
-ghost use Rattle.std.specs.Prelude.{◌≡◌, ◌+◌, ◌*◌, ◌<◌, ◌≤◌, [], ◌∷◌, length, decimal};
+// Tried with `write!`, which promises its text where it answers Ok: the goal `IsOk` of its answer stayed, since no
+// contract says when it does.
+ghost use Rattle.std.specs.Prelude.{◌≡◌, ◌+◌, ◌*◌, ◌<◌, ◌≤◌, length};
 ghost use Rattle.bench.specs.Texts.{hex_digit, hex};
 ghost use Rattle.bench.specs.Writing.{Adds, Room, free};
 
 use crate::listing::Listing;
+use itoa::{Buffer, Integer};
 
 impl Listing<'_> {
     // The bytes that are free behind what is written.
@@ -13,22 +16,14 @@ impl Listing<'_> {
         self.bytes.len() - self.used
     }
 
-    pub(crate) fn byte(&mut self, b: u8)
-        requires { Room self.old 1 }
-        ensures { Adds self.old (b ∷ []) self.new }
-    {
-        let at = self.used;
-        self.bytes[at] = b;
-        self.used = at + 1;
-    }
-
+    #[tactic(auto, using(crate::proofs::Additions::written_over))]
     pub(crate) fn word(&mut self, word: &[u8])
         requires { Room self.old (length word.now) }
         ensures { Adds self.old word.now self.new }
     {
-        for b in word {
-            self.byte(*b);
-        }
+        let end = self.used + word.len();
+        self.bytes[self.used..end].copy_from_slice(word);
+        self.used = end;
     }
 
     // Each byte in two capital hexadecimal digits.
@@ -37,30 +32,17 @@ impl Listing<'_> {
         ensures { Adds self.old (hex bytes.now) self.new }
     {
         for b in bytes {
-            self.byte(digit(*b / 16));
-            self.byte(digit(*b % 16));
+            self.word(&[digit(*b / 16), digit(*b % 16)]);
         }
     }
 
-    // A number without leading zeros, and a bound on its length.
-    pub(crate) fn number(&mut self, n: u32)
-        requires { Room self.old 10 }
-        ensures text { Adds self.old (decimal n) self.new }
-        ensures short { self.new.used ≤ self.old.used + 10 }
+    // A number without leading zeros.
+    pub(crate) fn number<N: Integer>(&mut self, n: N)
+        requires { Room self.old N.MAX_STR_LEN }
+        ensures text { Adds self.old (N.text n) self.new }
+        ensures short { self.new.used ≤ self.old.used + N.MAX_STR_LEN }
     {
-        self.decimal(n);
-    }
-
-    pub(crate) fn decimal(&mut self, n: u32)
-        requires { Room self.old (length (decimal n)) }
-        ensures { Adds self.old (decimal n) self.new }
-    {
-        if n < 10 {
-            self.byte(b'0' + n as u8);
-        } else {
-            self.decimal(n / 10);
-            self.byte(b'0' + (n % 10) as u8);
-        }
+        self.word(Buffer::new().format(n).as_bytes());
     }
 }
 

@@ -1,9 +1,10 @@
-use Rattle.std.proofs.Common.{arith}
-use Rattle.engine.proofs.Lists.{same_list}
+use Rattle.std.proofs.Common.{◌≡◌, get_or, sym, ◌∙◌, arith, rules, ext_get_or}
+use Rattle.engine.proofs.Made.{numbered}
 use Rattle.engine.proofs.whole_state.read_state.Goals as goal
 
 pub returns : goal.returns
 returns g c =
-    let e = c.args.engine.now in
-    same_list 32 c.loop-place.values (g.E.Engine.bytes e) c.loop-place.invariant.0 (g.E.Engine.state e).long
-    (λ k h. c.loop-place.invariant.1 k (omega arith))
+    let bytes = g.E.Engine.bytes c.args.engine.now in
+    let items = c.from_fn.ensures.items in
+    ext_get_or 0 c.from_fn.result bytes (items.long ∙ sym (g.met.E.Engine.state c.args.engine.now).long)
+    (λ k l. numbered _ (λ k y. y ≡ get_or bytes k 0) (λ k y q called. search rules) items k (omega (arith, items.long)))

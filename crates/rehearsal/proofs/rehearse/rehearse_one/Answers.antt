@@ -7,7 +7,7 @@ use Rattle.rehearsal.proofs.rehearse.rehearse_one.Goals as goal
 
 pub returns : goal.returns
 returns g c =
-    let M = g.E.Engine.keeps in
+    let M = g.met.E.Engine.keeps in
     let ran = c.run.ensures in
     let k = modelled _ M _ _ _ ran.inputs _ _ _ c.new-endpoint.ensures ran.told ran.shows in
     let h : Rehearsed _ _ _ _ = record { mixes = M; inputs = ran.inputs; model = k.model; runs = k.runs } in

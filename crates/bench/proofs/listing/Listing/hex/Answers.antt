@@ -1,5 +1,4 @@
-use Rattle.std.proofs.Common.{[], ◌∷◌, take, arith}
-use Rattle.std.proofs.lemmas.List.{take_all}
+use Rattle.std.proofs.Common.{take, arith}
 use Rattle.bench.specs.Texts.{hex}
 use Rattle.bench.proofs.Additions.{adds_none, adds_then}
 use Rattle.bench.proofs.Hexadecimal.{hex_more, length-hex-take}
@@ -8,26 +7,15 @@ use Rattle.bench.proofs.listing.Listing.hex.Goals as goal
 pub loop-b-init : goal.loop-b-init
 loop-b-init c = adds_none _
 
-pub byte-requires : goal.byte-requires
-byte-requires c =
+pub word-requires : goal.word-requires
+word-requires c =
     let inv = c.loop-b.invariant in
     let long = length-hex-take c.args.bytes.now c.loop-b.b-index c.loop-b.auto.b-index-end in
     omega (arith, c.requires, inv.used, inv.long, long)
-
-pub byte-requires-in-loop-b : goal.byte-requires-in-loop-b
-byte-requires-in-loop-b c =
-    let inv = c.loop-b.invariant in
-    let one = c.byte.ensures in
-    let long = length-hex-take c.args.bytes.now c.loop-b.b-index c.loop-b.auto.b-index-end in
-    omega (arith, c.requires, inv.used, inv.long, one.used, one.long, long)
 
 pub loop-b-preserved : goal.loop-b-preserved
 loop-b-preserved c =
     let bs = c.args.bytes.now in
     let i = c.loop-b.b-index in
-    let two = adds_then (c.digit.result ∷ []) c.byte.ensures (c.digit-in-loop-b.result ∷ []) c.byte-in-loop-b.ensures in
-    let digits = rw (c.digit.ensures, c.digit-in-loop-b.ensures) at two in
+    let digits = rw (c.digit.ensures, c.digit-in-loop-b.ensures) at c.word.ensures in
     rw (hex_more bs i c.loop-b-test.true) (adds_then (hex (take i bs)) c.loop-b.invariant _ digits)
-
-pub returns : goal.returns
-returns c = rw (take_all c.loop-b.b-index c.args.bytes.now c.loop-b-test.false) at c.loop-b.invariant

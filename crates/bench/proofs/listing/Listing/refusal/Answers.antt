@@ -1,13 +1,11 @@
-use Rattle.std.proofs.Common.{◌≡◌, ℕ, ◌⊎◌, List, [], ◌++◌, codes, decimal, sym, refl, ap, ◌∙◌, subst, inl, inr, ⊎_elim, arith}
+use Rattle.std.proofs.Common.{◌≡◌, ◌⊎◌, [], ◌++◌, codes, decimal, sym, refl, ap, ◌∙◌, inl, inr, ⊎_elim}
 use Rattle.std.proofs.lemmas.List.{append-nil}
 use Rattle.engine.specs.declared.shortfall.Shortfall.{Shortfall}
 use Rattle.link.specs.declared.refusal.Refusal.{Refusal}
 use Rattle.link.specs.declared.refusal.Refusal.TheVariants as why
 use Rattle.link.specs.Calls.{Answer, refused, refusal, number_of}
 use Rattle.bench.specs.Texts.{answer_text}
-use Rattle.bench.specs.Writing.{Adds}
 use Rattle.bench.proofs.Additions.{adds_then}
-use Rattle.bench.proofs.Decimals.{short_number}
 use Rattle.bench.proofs.listing.Listing.refusal.Goals as goal
 
 -- only one refusal tells values with its number
@@ -41,34 +39,15 @@ mixings_text e s h =
     rw h (ap (λ t. codes "no " ++ (decimal 9 ++ (codes " " ++ (decimal s.wanted ++ (codes " " ++ t)))))
     (sym (append-nil (decimal s.left))))
 
-pub decimal-requires : goal.decimal-requires
-decimal-requires c = omega (arith, c.requires, short_number c.number.result (omega arith))
-
-pub also-requires : goal.also-requires
-also-requires c = omega (arith, c.requires, short_number c.number.result (omega arith))
-
-pub also-requires-in-Mixings : goal.also-requires-in-Mixings
-also-requires-in-Mixings c = omega (arith, c.requires, short_number c.number.result (omega arith))
-
-pub returns-in-Mixings : goal.returns-in-Mixings
-returns-in-Mixings c =
+pub returns-in-Mixings-clause-text : goal.returns-in-Mixings-clause-text
+returns-in-Mixings-clause-text c =
     let both = adds_then _ c.also.ensures.text _ c.also-in-Mixings.ensures.text in
-    let number = rw c.number.ensures.value at c.decimal.ensures in
+    let number = rw c.number.ensures.value at c.number-2.ensures.text in
     let all = adds_then (codes "no ") c.word.ensures _ (adds_then _ number _ both) in
-    record {
-      text =
-          subst (λ (t : List ℕ). Adds c.args.self.now t c.also-in-Mixings.new.self)
-          (mixings_text c.args.why c.in-Mixings.short c.in-Mixings.is) all;
-      short = omega (arith, short_number c.number.result (omega arith));
-    }
+    rw (← mixings_text c.args.why c.in-Mixings.short c.in-Mixings.is) all
 
-pub returns-in_default : goal.returns-in_default
-returns-in_default c =
-    let number = rw c.number.ensures.value at c.decimal.ensures in
+pub returns-in_default-clause-text : goal.returns-in_default-clause-text
+returns-in_default-clause-text c =
+    let number = rw c.number.ensures.value at c.number-2.ensures.text in
     let all = adds_then (codes "no ") c.word.ensures _ number in
-    record {
-      text =
-          subst (λ (t : List ℕ). Adds c.args.self.now t c.decimal.new.self)
-          (plain_text c.args.why c.in_default.not-Mixings) all;
-      short = omega (arith, short_number c.number.result (omega arith));
-    }
+    rw (← plain_text c.args.why c.in_default.not-Mixings) all

@@ -10,4 +10,4 @@ returns c =
     let number = rw c.number.ensures at c.number-2.ensures.text in
     let place = adds_then (codes " at ") c.word-2.ensures (decimal c.args.place) c.number-3.ensures.text in
     let rest = adds_then (decimal (stop_number c.args.stop)) number _ place in
-    adds_then _ (adds_then (codes "stop ") c.word.ensures _ rest) (codes "\n") c.byte.ensures
+    adds_then _ (adds_then (codes "stop ") c.word.ensures _ rest) (codes "\n") c.word-3.ensures

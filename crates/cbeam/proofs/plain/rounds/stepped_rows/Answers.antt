@@ -1,9 +1,10 @@
-use Rattle.std.proofs.Common.{arith, rules}
+use Rattle.std.proofs.Common.{◌≡◌, get_or, rules}
 use Rattle.cbeam.specs.Permutation.{linear, nonlinear}
 use Rattle.cbeam.proofs.Cells.{mapped_twice}
+use Rattle.engine.proofs.Made.{numbered}
 use Rattle.cbeam.proofs.plain.rounds.stepped_rows.Goals as goal
 
 pub returns : goal.returns
 returns c =
-    mapped_twice nonlinear linear c.args.rows.now c.loop-i.t (search rules) c.loop-i.invariant.0
-    (λ k h. c.loop-i.invariant.1 k (omega arith))
+    mapped_twice nonlinear linear c.args.rows.now c.from_fn.result c.told-rows c.from_fn.ensures.items.long
+    (numbered _ (λ k y. y ≡ nonlinear (linear (get_or c.args.rows.now k 0))) (λ i y q k. search rules) c.from_fn.ensures.items)

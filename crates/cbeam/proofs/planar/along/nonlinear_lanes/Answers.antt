@@ -7,7 +7,7 @@ pub returns : goal.returns
 unfolding bit
 returns c =
     let x : ℕ = c.args.x in
-    along_nonlinear_lane x _ _ _ _ c.phi5_words.result
+    along_nonlinear_lane x _ _ _ _ c.phi5.result
     (rotated_turned 1 _ _ (omega arith) tt x) (rotated_turned 2 _ _ (omega arith) tt x)
     (rotated_turned 3 _ _ (omega arith) tt x) (rotated_turned 4 _ _ (omega arith) tt x)
-    c.phi5_words.ensures
+    c.phi5.ensures

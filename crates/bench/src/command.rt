@@ -22,7 +22,8 @@ impl Part {
     }
 }
 
-// Key and nonce are named by their places alone: their lengths are fixed.
+// It is no `Call`: it names places of a pool that may not have them, and key and nonce by their places alone, since their
+// lengths are fixed.
 #[derive(Clone, Copy)]
 pub enum Command {
     Start { key: u16, nonce: u16 },

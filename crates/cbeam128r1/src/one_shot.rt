@@ -20,7 +20,7 @@ use link::refusal::Refusal;
 const ENOUGH: u32 = 16_388;
 
 // Writes ciphertext and tag at the head of the output, and tells their length. What is published is what a session over
-// the permutation seals as its first telegram.
+// the permutation seals as its first telegram. The parameters are those that the publication names.
 #[tactic(auto, using(crate::proofs::OneTelegram::sealed_single, crate::proofs::Agreement::encryption_sealing))]
 pub fn encrypt(
     form: Form,

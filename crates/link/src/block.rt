@@ -6,7 +6,7 @@ use engine::Engine;
 use engine::whole_state::byte_at;
 
 // The pad of what the operation reads or tells, and how many places of the block are done. They are counted and not cut
-// by `chunks`, since a full block is closed otherwise where it is the last, which a chunk cannot see.
+// by `chunks`: the last block is closed otherwise, full or not, so a loop over a block would stand twice in each operation.
 pub(crate) struct Block {
     pad: u8,
     done: usize,

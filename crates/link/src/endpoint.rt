@@ -34,7 +34,7 @@ impl<E: Engine> Endpoint<E> {
         }
     }
 
-    // Begins a session. The named calls take what C programs hand over one by one; `Call` is the struct of it.
+    // Begins a session. The named calls stand beside `call`, which takes the same as one value, each with its promise.
     pub fn start(&mut self, key: &[u8], nonce: &[u8]) -> Result<(), Refusal>
         ensures inputs { CallBytes (Start key.now nonce.now []) }
         ensures did { Did E.mixing (view E.bytes E.budget self.old) (Start key.now nonce.now [])
@@ -81,8 +81,8 @@ impl<E: Engine> Endpoint<E> {
         Ok(())
     }
 
-    // Makes any call; only seal and open write the output. What it does depends on the phase and the call together, and a
-    // rule of the project wants them matched in place.
+    // Makes any call; only seal and open write the output. What it does depends on the phase and the call together:
+    // each pair has its arm here, and none catches a pair that a later call would add.
     pub fn call(&mut self, call: Call, output: &mut [u8]) -> Result<Answer, Refusal>
         ensures did { Did E.mixing (view E.bytes E.budget self.old) (call_of call.entry output.old)
             (answer_of result) output.new (view E.bytes E.budget self.new) }
@@ -126,6 +126,7 @@ impl<E: Engine> Endpoint<E> {
     {
         let data_length = u16::try_from(aad.len()).map_err(|_| Refusal::DataLength)?;
         let message_length = u16::try_from(message.len()).map_err(|_| Refusal::MessageLength)?;
+        // Its part is taken below: held across the `?`, the rest is not proved to stay.
         let long = message.len() + TAG_LENGTH;
         if out.len() < long {
             return Err(Refusal::OutputLength);

@@ -12,7 +12,7 @@ fn difference(a: &[u8; TAG_LENGTH], b: &[u8; TAG_LENGTH]) -> u8
     a.iter().zip(b).fold(0, |d, (x, y)| d | (x ^ y))
 }
 
-// Whether two tags are the same. Every byte is compared, wherever the first difference is.
+// Whether two tags are the same. Every byte is compared: `==` may stop at the first that differs.
 #[tactic(auto, using(crate::proofs::Tags::nothing_differs))]
 pub(crate) fn same_tag(a: &[u8; TAG_LENGTH], b: &[u8; TAG_LENGTH]) -> bool
     ensures { result ≡ bytes_eq a.now b.now }

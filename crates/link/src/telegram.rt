@@ -18,6 +18,7 @@ pub(crate) const KEY_LENGTH: usize = 16;
 
 pub(crate) const NONCE_LENGTH: usize = 8;
 
+// The pad of each kind of input. It is a number that is xored in, and nothing looks at its kind.
 const KEY_PAD: u8 = 0x10;
 
 const NONCE_PAD: u8 = 0x20;

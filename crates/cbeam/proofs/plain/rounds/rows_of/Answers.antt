@@ -5,4 +5,4 @@ use Rattle.cbeam.proofs.plain.rounds.rows_of.Goals as goal
 
 pub returns : goal.returns
 unfolding rows_of
-returns c = made _ (row_of c.args.bytes.now) (λ i y q k. search rules) c.from_fn.ensures.items
+returns c = made _ (row_of c.args.bytes.now) 16 (λ i y q h k. search rules) c.from_fn.ensures.items

@@ -5,4 +5,4 @@ use Rattle.cbeam.proofs.plain.transposition.transposed_rows.Goals as goal
 
 pub returns : goal.returns
 unfolding transposed
-returns c = made _ (transposed_row c.args.rows.now) (λ i y q k. search rules) c.from_fn.ensures.items
+returns c = made _ (transposed_row c.args.rows.now) 16 (λ i y q h k. search rules) c.from_fn.ensures.items

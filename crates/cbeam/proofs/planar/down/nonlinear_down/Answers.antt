@@ -8,4 +8,4 @@ pub returns : goal.returns
 returns c =
     nonlinear_columns c.args.words.now c.from_fn.result (λ u h. search rules)
     (numbered _ (λ u y. DownColumns (get_or c.args.words.now u 0) (get_or c.args.words.now ((u + 3) % 4) 0) y)
-    (λ u y q k. search rules) c.from_fn.ensures.items)
+    4 (λ u y q h k. search rules) c.from_fn.ensures.items)

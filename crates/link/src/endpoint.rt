@@ -147,9 +147,9 @@ impl<E: Engine> Endpoint<E> {
         let message_length = u16::try_from(sealed.len().saturating_sub(TAG_LENGTH)).map_err(
             |_| Refusal::MessageLength,
         )?;
-        let Some((text, tag)) = sealed.split_last_chunk::<TAG_LENGTH>() else {
-            return Err(Refusal::TagMissing);
-        };
+        let (text, tag) = sealed
+            .split_last_chunk::<TAG_LENGTH>()
+            .ok_or(Refusal::TagMissing)?;
         let n = text.len();
         if out.len() < n {
             return Err(Refusal::OutputLength);

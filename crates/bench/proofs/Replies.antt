@@ -1,11 +1,11 @@
 -- Laws of the reply to a call, and to the call that a command is.
-use Rattle.std.proofs.Common.{◌≡◌, ℕ, ◌+◌, ◌-◌, ◌≤◌, Bool, true, false, List, ◌++◌, length, drop, refl, arith}
+use Rattle.std.proofs.Common.{◌≡◌, ℕ, ◌+◌, ◌-◌, ◌≤◌, Bool, true, false, List, ◌++◌, length, drop, refl, ap, arith}
 use Rattle.std.proofs.lemmas.List.{length-append, length-take}
 use Rattle.link.specs.Calls.{Call, Start, Seal, Open, Left, Close}
 use Rattle.link.specs.Calls.{Answer, started, sealed, opened, mixings_left, closed, refused}
 use Rattle.link.specs.Questions.{questions, Verdict, passed, stopped, verdict}
 use Rattle.link.specs.Sessions.{sealing_at, plaintext, genuine}
-use Rattle.link.specs.Steps.{View, Outcome, opening, settled, step}
+use Rattle.link.specs.Steps.{View, Outcome, opening, settled, step, Did}
 use Rattle.link.proofs.Sealings.{length-sealing, length-plain}
 use Rattle.bench.specs.declared.command.Part.{Part}
 use Rattle.bench.specs.declared.command.Command.{Command}
@@ -92,3 +92,10 @@ handed_span pool work (command.Seal aad message) = length_part pool message
 handed_span pool work (command.Open aad sealed_bytes) = length_part pool sealed_bytes
 handed_span pool work command.Left = omega arith
 handed_span pool work command.Close = omega arith
+
+-- a command is answered with few bytes more than it names
+pub few_told :
+    {mix : List ℕ → List ℕ} {e e' : View} {a : Answer} {output : List ℕ} (pool work : List ℕ) (c : Command) →
+    Did mix e (call pool work c) a output e' → bytes_told a ≤ span c + 8
+few_told {mix} {e} pool work c d =
+    omega (arith, (sound mix e (call pool work c)).few, handed_span pool work c, ap bytes_told d.answers)

@@ -2,6 +2,7 @@ pub mod Runs
 pub mod Lengths
 pub mod Xor
 pub mod Tags
+pub mod Parts
 pub mod Inverse
 pub mod Sealings
 pub mod Bytewise

@@ -10,7 +10,7 @@ use crate::call::{Answer, Call};
 use crate::cost::telegram_cost;
 use crate::phase::Phase;
 use crate::refusal::Refusal;
-use crate::tag::TAG_LENGTH;
+use crate::tag::{TAG_LENGTH, text_and_tag};
 use crate::telegram::{KEY_LENGTH, NONCE_LENGTH, open_telegram, seal_telegram, start_session};
 use engine::Engine;
 
@@ -147,9 +147,7 @@ impl<E: Engine> Endpoint<E> {
         let message_length = u16::try_from(sealed.len().saturating_sub(TAG_LENGTH)).map_err(
             |_| Refusal::MessageLength,
         )?;
-        let (text, tag) = sealed
-            .split_last_chunk::<TAG_LENGTH>()
-            .ok_or(Refusal::TagMissing)?;
+        let (text, tag) = text_and_tag(sealed).ok_or(Refusal::TagMissing)?;
         let n = text.len();
         if out.len() < n {
             return Err(Refusal::OutputLength);

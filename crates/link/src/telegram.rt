@@ -1,5 +1,6 @@
 // What start, seal and open do to the state once their questions are passed. That the mixings suffice is asked by each:
-// it is a relation of an engine and two lengths, which no type of one value has.
+// it is a relation of an engine and two lengths, which no type of one value has. So is that what is filled has the length
+// of what fills it.
 ghost use Rattle.std.specs.Prelude.{◌≡◌, ◌+◌, ◌-◌, ◌≤◌, cond, ◌++◌, length, Ok, Err};
 ghost use Rattle.link.specs.Blocks.{zeros};
 ghost use Rattle.link.specs.Sessions.{cost, session_begun, sealing_at, after_telegram};
@@ -53,7 +54,7 @@ fn next_tag<E: Engine>(e: &mut E) -> [u8; TAG_LENGTH]
     ensures budget { E.budget e.new ≡ E.budget e.old - 1 }
 {
     let mut tag = [0; TAG_LENGTH];
-    tell::<Get, E>(e, TAG_PAD, &mut tag);
+    tell::<Get, E>(e, TAG_PAD, &[0; TAG_LENGTH], &mut tag);
     tag
 }
 
@@ -66,9 +67,8 @@ pub(crate) fn seal_telegram<E: Engine>(e: &mut E, aad: &[u8], message: &[u8], ou
     ensures out { out.new ≡ sealing_at E.mixing (E.bytes e.old) aad.now message.now }
 {
     let (text, tag) = out.split_at_mut(message.len());
-    text.copy_from_slice(message);
     put(e, DATA_PAD, aad);
-    tell::<Enc, E>(e, MESSAGE_PAD, text);
+    tell::<Enc, E>(e, MESSAGE_PAD, message, text);
     tag.copy_from_slice(&next_tag(e));
 }
 
@@ -90,9 +90,8 @@ fn decipher<E: Engine>(
     ensures budget { E.budget e.new ≡ E.budget e.old - cost (length aad.now) (length text.now) }
     ensures out { out.new ≡ plaintext E.mixing (E.bytes e.old) aad.now (text.now ++ tag.now) }
 {
-    out.copy_from_slice(text);
     put(e, DATA_PAD, aad);
-    tell::<Dec, E>(e, MESSAGE_PAD, out);
+    tell::<Dec, E>(e, MESSAGE_PAD, text, out);
     same_tag(&next_tag(e), tag)
 }
 

@@ -11,7 +11,7 @@ use Rattle.cbeam.proofs.Cells.{cell, same_rows, mapped_rows, rows_transposed, co
 use Rattle.cbeam.proofs.Sums.{sum, others}
 
 -- the sum of four words
-all_four : (q : List ℕ) → length q ≡ 4 → fold bit_xor 0 q ≡ sum (get_or q 0 0) (get_or q 1 0) (get_or q 2 0) (get_or q 3 0)
+pub all_four : (q : List ℕ) → length q ≡ 4 → fold bit_xor 0 q ≡ sum (get_or q 0 0) (get_or q 1 0) (get_or q 2 0) (get_or q 3 0)
 all_four (a ∷ b ∷ c ∷ d ∷ []) h = ap (λ x. bit_xor (bit_xor (bit_xor x b) c) d) (xor_zero_l a)
 all_four [] h = absurd (omega arith)
 all_four (a ∷ []) h = absurd (omega arith)
@@ -20,10 +20,11 @@ all_four (a ∷ b ∷ c ∷ []) h = absurd (omega arith)
 all_four (a ∷ b ∷ c ∷ d ∷ e ∷ q) h = absurd (omega arith)
 
 -- four words, each with the sum of all added
-pub linear_columns : (q r : List ℕ) → length q ≡ 4
-    → ((u : ℕ) → u < 4 → get_or r u 0 ≡ bit_xor (get_or q u 0) (fold bit_xor 0 q))
+pub linear_columns : (q r : List ℕ)
+    → ((u : ℕ) → u < 4
+    → get_or r u 0 ≡ bit_xor (get_or q u 0) (sum (get_or q 0 0) (get_or q 1 0) (get_or q 2 0) (get_or q 3 0)))
     → transposed (laid r) ≡ map linear (transposed (laid q))
-linear_columns q r hq g =
+linear_columns q r g =
     same_rows (transposed (laid r)) (map linear (transposed (laid q)))
     (rows_transposed (laid r))
     (mapped_rows linear (transposed (laid q)) linear_below (rows_transposed (laid q)))
@@ -42,4 +43,4 @@ linear_columns q r hq g =
     f u k = bit (get_or q u 0) k
 
     added_bit : (u k : ℕ) → u < 4 → bit (get_or r u 0) k ≡ bit_xor (f u k) (sum (f 0 k) (f 1 k) (f 2 k) (f 3 k))
-    added_bit u k h = ap (λ x. bit x k) (g u h ∙ ap (bit_xor (get_or q u 0)) (all_four q hq)) ∙ simp bit-xor
+    added_bit u k h = ap (λ x. bit x k) (g u h) ∙ simp bit-xor

@@ -22,7 +22,7 @@ unfolding bytes_in
 length_bytes n s = refl
 
 -- a byte put into word k / n, as byte k % n of it
-put_list : (n : ℕ) → 0 < n → (s : List ℕ) (k b : ℕ) → k < 32 → k / n < length s → b < 2 ^ 8
+pub put_list : (n : ℕ) → 0 < n → (s : List ℕ) (k b : ℕ) → k < 32 → k / n < length s → b < 2 ^ 8
     → bytes_in n (set s (k / n) (byte_put (8 * n) (get_or s (k / n) 0) (k % n) b)) ≡ set (bytes_in n s) k b
 unfolding bytes_in
 put_list n pos s k b hk ha hb =

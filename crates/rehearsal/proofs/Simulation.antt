@@ -1,5 +1,5 @@
 -- An endpoint does what the model says, call by call, for every list of calls.
-use Rattle.std.proofs.Common.{◌≡◌, ℕ, ◌-◌, Bool, true, false, List, [], ◌∷◌, ◌++◌, length, sym, refl, ap, ◌∙◌, true≢false}
+use Rattle.std.proofs.Common.{◌≡◌, ℕ, ◌-◌, Bool, true, false, List, [], ◌∷◌, ◌++◌, length, sym, refl, ap, ◌∙◌}
 use Rattle.std.proofs.lemmas.Slice.Eq.{bytes_eq-Decides}
 use Rattle.engine.specs.States.{Bytes, Mixes}
 use Rattle.link.specs.declared.phase.Phase.TheVariants.{Live}
@@ -11,6 +11,7 @@ use Rattle.link.specs.Questions.{Verdict, passed, stopped}
 use Rattle.link.specs.Steps.{View, Outcome, opening, done, settled, step}
 use Rattle.link.proofs.Sealings.{length-plain, sealing_plain, tag_sealing, in_plain, session_more}
 use Rattle.link.proofs.SessionStates.{SessionBytes, telegrams_more, plain_bytes}
+use Rattle.rehearsal.proofs.Verdicts.{true_is_false}
 use Rattle.rehearsal.specs.Turns.{AllBytes, replies, view_after}
 use Rattle.rehearsal.specs.Model.{Model, idle, live, asked, telegram, shown}
 use Rattle.rehearsal.specs.Model.{Step, refuse, start, seal, accept, reject, tell, close, Runs, over, next}
@@ -63,7 +64,7 @@ module _ (mix : List ℕ → List ℕ) (M : Mixes mix) where
     opens e mb cb false h = record {
       model = live (left - cost (length a) (length c - 8)) key nonce ts;
       rest = bs;
-      does = reject e (λ p hb. true≢false (sym ((bytes_eq-Decides _ _).1 (tag_sealing mix _ a p c hb.1)) ∙ h));
+      does = reject e (λ p hb. true_is_false _ ((bytes_eq-Decides _ _).1 (tag_sealing mix _ a p c hb.1)) h);
       stands = refl;
       bytes = mb;
     }

@@ -1,9 +1,12 @@
 -- Whether every question is answered yes, and the number of the first that is not.
-use Rattle.std.proofs.Common.{◌≡◌, ℕ, true, false, eqb, List, [], ◌∷◌, refl, arith}
+use Rattle.std.proofs.Common.{◌≡◌, ℕ, Bool, true, false, eqb, List, [], ◌∷◌, sym, refl, ◌∙◌, true≢false, arith}
 use Rattle.std.proofs.lemmas.Bool.Decides.{nat_tests as ways}
 use Rattle.link.specs.declared.phase.Phase.{Phase}
 use Rattle.link.specs.Calls.{Call, Start, Seal, Open, Left, Close}
 use Rattle.link.specs.Questions.{Question, questions, passed, stopped, verdict}
+
+pub true_is_false : (b : Bool) → b ≡ true → b ≡ false → ⊥
+true_is_false b p q = true≢false (sym p ∙ q)
 
 -- every question is answered yes
 abbrev pub AllYes : List Question → Type 0

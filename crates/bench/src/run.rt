@@ -51,7 +51,8 @@ impl<'a, E: Engine> Bench<'a, '_, '_, E> {
         Ok((command, made, rest))
     }
 
-    // Makes the call that a command is, and adds its line.
+    // Makes the call that a command is, and adds its line. That it is that command's call is a relation of both and of the
+    // pool, which no type of one value has.
     fn carry_out(&mut self, command: Command, made: Call)
         requires is { IsCall self.old.pool.now command made }
         requires room { Room self.old.listing.now (room command) }

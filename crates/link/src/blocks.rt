@@ -21,7 +21,8 @@ pub(crate) fn put<E: Engine>(e: &mut E, pad: u8, input: &[u8])
     block.finish(e);
 }
 
-// Tells of each byte that comes in what the operation tells, in the same place of the output.
+// Tells of each byte that comes in what the operation tells, in the same place of the output, which has to be as long: a
+// relation of two slices. By `zip` over both, no contract would say what the output holds after.
 pub(crate) fn tell<O: Operation, E: Engine>(e: &mut E, pad: u8, input: &[u8], out: &mut [u8])
     requires budget { mixings (length input.now) ≤ E.budget e.old }
     requires room { length out.old ≡ length input.now }

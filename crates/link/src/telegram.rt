@@ -1,6 +1,6 @@
 // What start, seal and open do to the state once their questions are passed. That the mixings suffice is asked by each:
-// it is a relation of an engine and two lengths, which no type of one value has. So is that what is filled has the length
-// of what fills it.
+// it is a relation of an engine and two lengths, which no type of one value has. That an output has the length of what
+// fills it is asked where it is filled: it is a relation of two slices.
 ghost use Rattle.std.specs.Prelude.{◌≡◌, ◌+◌, ◌-◌, ◌≤◌, cond, ◌++◌, length, Ok, Err};
 ghost use Rattle.link.specs.Blocks.{zeros};
 ghost use Rattle.link.specs.Sessions.{cost, session_begun, sealing_at, after_telegram};
